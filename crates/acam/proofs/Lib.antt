@@ -1,0 +1,1 @@
+-- The proofs of this crate's functions; each stands in the folder of its function.

@@ -1,0 +1,2 @@
+-- What the calls of this crate give, each as one definition.
+pub mod Shapes

@@ -1,0 +1,27 @@
+-- The comparator, a row's match byte and the input vector of a task lookup.
+use mathlib.Core.Bool.{Bool, true, false, cond, _&&_}
+use mathlib.Core.List.{List, [], _∷_, _++_}
+use Prim.Native.Nat.{ℕ}
+use lib.Dec.{leb}
+use lib.ListN.{replicate}
+use Rattle.parity.specs.Shape.{checks}
+use Rattle.parity.specs.declared.Shape.{Shape}
+
+-- a cell answers 1 exactly when input ≤ cell
+abbrev pub answers : ℕ → ℕ → Bool
+answers input cell = leb input cell
+
+-- every cell of the row answers 1 to its input
+abbrev pub allAnswer : List ℕ → List ℕ → Bool
+allAnswer [] [] = true
+allAnswer [] (v ∷ vs) = false
+allAnswer (x ∷ xs) [] = false
+allAnswer (x ∷ xs) (v ∷ vs) = answers x v && allAnswer xs vs
+
+-- a row's match byte for a vector of as many inputs as it has cells
+unfoldable pub matchByte : List ℕ → List ℕ → ℕ
+matchByte vector row = cond (allAnswer vector row) 1 0
+
+-- the vector of a task lookup: the k inputs, and 0 for each check column
+unfoldable pub taskVector : Shape → List ℕ → List ℕ
+taskVector shape inputs = inputs ++ replicate (checks shape) 0

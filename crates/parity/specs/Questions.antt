@@ -1,0 +1,66 @@
+-- Document 01, "Questions at the door": how questions are asked, those on a shape, and those on what a call is given.
+use mathlib.Core.Path.{_≡_}
+use mathlib.Core.Bool.{Bool, cond, _&&_}
+use mathlib.Core.List.{List, [], _∷_}
+use Prim.Native.Nat.{ℕ}
+use lib.Dec.{leb, ltb, eqb}
+use Rattle.parity.specs.Lists.{every}
+use Rattle.parity.specs.Shape.{levels, limit}
+use Rattle.parity.specs.declared.Shape.{Shape}
+
+-- a question: the number that a no gives, and whether the answer is yes
+pub record Question : Type 0 where
+  pub number : ℕ
+  pub holds : Bool
+
+-- the number of the first no of a list of questions, asked in order; 0 where each answer is yes
+abbrev pub firstNo : List Question → ℕ
+firstNo [] = 0
+firstNo (q ∷ qs) = cond (q .holds) (firstNo qs) (q .number)
+
+-- 1: is ρ from 2 to 255?
+abbrev pub radixQuestion : Shape → Question
+radixQuestion s = record { number = 1; holds = leb 2 (s .radix) && leb (s .radix) 255 }
+
+-- 2: is b at least 1 and q at most 256?
+abbrev pub digitsQuestion : Shape → Question
+digitsQuestion s = record { number = 2; holds = leb 1 (s .digits) && leb (levels s) 256 }
+
+-- 3: is τ 1, 2 or 3?
+abbrev pub errorsQuestion : Shape → Question
+errorsQuestion s = record { number = 3; holds = leb 1 (s .errors) && leb (s .errors) 3 }
+
+-- 4: is k from 1 to the limit for τ?
+abbrev pub widthQuestion : Shape → Question
+widthQuestion s = record { number = 4; holds = leb 1 (s .width) && leb (s .width) (limit (s .errors)) }
+
+-- 5: is m from 1 to 4,096?
+abbrev pub rowsQuestion : Shape → Question
+rowsQuestion s = record { number = 5; holds = leb 1 (s .rows) && leb (s .rows) 4096 }
+
+-- the questions on a shape, in their order: those on its levels, then those on its columns and rows
+abbrev pub columnQuestions : Shape → List Question
+columnQuestions s = errorsQuestion s ∷ widthQuestion s ∷ rowsQuestion s ∷ []
+
+abbrev pub shapeQuestions : Shape → List Question
+shapeQuestions s = radixQuestion s ∷ digitsQuestion s ∷ columnQuestions s
+
+-- the number of the first question that a shape fails; 0 where it is taken
+unfoldable pub shapeRefusal : Shape → ℕ
+shapeRefusal s = firstNo (shapeQuestions s)
+
+-- a shape that is taken
+abbrev pub Taken : Shape → Type 0
+Taken s = shapeRefusal s ≡ 0
+
+-- 6: has a lent buffer exactly its length?
+abbrev pub lengthQuestion : ℕ → ℕ → Question
+lengthQuestion lent wanted = record { number = 6; holds = eqb lent wanted }
+
+-- 7: is a row's or a column's number below its count?
+abbrev pub placeQuestion : ℕ → ℕ → Question
+placeQuestion place count = record { number = 7; holds = ltb place count }
+
+-- 8: is every given level or input below q?
+abbrev pub levelsQuestion : Shape → List ℕ → Question
+levelsQuestion s given = record { number = 8; holds = every (λ v. ltb v (levels s)) given }
