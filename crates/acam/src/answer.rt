@@ -1,0 +1,20 @@
+// What the calls of this crate answer, beside the bytes that they write.
+
+// A number, or the number of the first question that fails.
+pub enum Answer {
+    Is(usize),
+    Refused(u8),
+}
+
+// Done, or the number of the first question that fails.
+pub enum Outcome {
+    Done,
+    Refused(u8),
+}
+
+// Yes, no, or the number of the first question that fails.
+pub enum Verdict {
+    Yes,
+    No,
+    Refused(u8),
+}

@@ -1,0 +1,72 @@
+// The test of a row for soundness: whether it is a codeword.
+use super::byte::wide;
+use super::sums::digit_sums;
+use parity::Shape;
+ghost use mathlib.Core.Path.{_≡_};
+ghost use Prim.Native.Nat.{ℕ, _%_, _≤_, _<_};
+ghost use lib.Dec.{eqb, ltb};
+ghost use lib.ListN.{length, getD};
+ghost use Rattle.parity.specs.Lists.{every, everyTo};
+ghost use Rattle.parity.specs.Shape.{levels as levelsOf, checks as checksOf, columns as columnsOf};
+ghost use Rattle.parity.specs.Codeword.{isCodeword};
+ghost use Rattle.parity.specs.Questions.{Taken};
+ghost use Rattle.acam.specs.Matrices.{matrixArray};
+
+// Whether every byte is below a bound.
+pub(crate) fn all_below(bytes: &[u8], bound: usize) -> bool
+    ensures { λ r. ⌜ r ≡ every (λ v. ltb v bound) (now (bytes .entry)) ⌝ }
+{
+    let mut j: usize = 0;
+    while j < bytes.len() {
+        if bound <= wide(bytes[j]) {
+            return false;
+        }
+        j += 1;
+    }
+    true
+}
+
+// Whether the first sums, one for each check row, are 0 mod ρ.
+fn all_balanced(sums: [usize; 8], checks: usize, radix: usize) -> bool
+    requires { ⌜ (checks ≤ 8) × (0 < radix) ⌝ }
+    ensures { λ r. ⌜ r ≡ everyTo checks (λ l. eqb (getD sums l 0 % radix) 0) ⌝ }
+{
+    let mut l: usize = 0;
+    while l < checks {
+        if sums[l] % radix != 0 {
+            return false;
+        }
+        l += 1;
+    }
+    true
+}
+
+// Whether a row of n bytes, any bytes, is sound.
+pub(crate) fn is_sound(
+    shape: Shape,
+    checks: usize,
+    levels: usize,
+    row: &[u8],
+    columns: &[u8; 255],
+) -> bool
+    requires { ⌜ Taken shape × (checks ≡ checksOf shape) × (levels ≡ levelsOf shape) ⌝ }
+    requires { ⌜ (length (now row) ≡ columnsOf shape) × (now columns ≡ matrixArray shape) ⌝ }
+    ensures { λ r. ⌜ r ≡ isCodeword shape (now (row .entry)) ⌝ }
+{
+    let radix = shape.radix;
+    let digits = shape.digits;
+    if !all_below(row, levels) {
+        return false;
+    }
+    let mut power: usize = 1;
+    let mut s: usize = 0;
+    while s < digits {
+        let sums = digit_sums(row, columns, radix, power);
+        if !all_balanced(sums, checks, radix) {
+            return false;
+        }
+        power = power * radix;
+        s += 1;
+    }
+    true
+}

@@ -1,0 +1,39 @@
+-- A buffer written from the front, place after place, with what a function gives: the invariant of every loop that fills a buffer.
+-- Assumes nothing.
+use mathlib.Core.Path.{_≡_, refl, sym, _∙_, ap}
+use mathlib.Core.List.{List, [], _∷_, _++_, append-nil}
+use Prim.Native.Nat.{ℕ, zero, suc, _+_, _≤_, _<_}
+use native.Mathlib.Numerals.{add-one}
+use native.Mathlib.Omega.{arith}
+use lib.ListN.{length, getD, drop, set, length-append, length-drop}
+use lib.Seq.{drop-cons, drop-length, set-at, append-snoc, getD-append-add, getD-drop}
+use Rattle.parity.specs.Lists.{tabulate}
+use Rattle.parity.proofs.ListLaws.{length-tabulate}
+
+module _ {ℓ} {A : Type ℓ} where
+  -- the first i places are f's, the rest as they were
+  abbrev pub filled : (ℕ → A) → List A → ℕ → List A
+  filled f l i = tabulate i f ++ drop i l
+
+  pub filled-none : (f : ℕ → A) (l : List A) → l ≡ filled f l 0
+  filled-none f l = refl
+
+  pub filled-length : (f : ℕ → A) (l : List A) (i : ℕ) → i ≤ length l → length (filled f l i) ≡ length l
+  filled-length f l i h = omega (arith, length-append (tabulate i f) (drop i l), length-tabulate i f, length-drop i l)
+
+  -- what stands at a place that is not written yet
+  pub filled-rest : (f : ℕ → A) (l : List A) (i j : ℕ) (d : A) → getD (filled f l i) (i + j) d ≡ getD l (i + j) d
+  filled-rest f l i j d =
+      ap (λ n. getD (filled f l i) (n + j) d) (sym (length-tabulate i f)) ∙ getD-append-add (tabulate i f) (drop i l) j d ∙ getD-drop i l j d
+
+  pub filled-next : (f : ℕ → A) (l : List A) (i : ℕ) → i < length l → set (filled f l i) i (f i) ≡ filled f l (i + 1)
+  filled-next f [] i h = absurd (omega arith)
+  filled-next f (x ∷ xs) i h =
+      ap (λ t. set (tabulate i f ++ t) i (f i)) (drop-cons (x ∷ xs) i x h)
+      ∙ set-at (tabulate i f) (getD (x ∷ xs) i x) (drop (suc i) (x ∷ xs)) (f i) i (length-tabulate i f)
+      ∙ sym (append-snoc (tabulate i f) (f i) (drop (suc i) (x ∷ xs)))
+      ∙ ap (filled f (x ∷ xs)) (sym (add-one i))
+
+  pub filled-all : (f : ℕ → A) (l : List A) (i : ℕ) → i ≡ length l → filled f l i ≡ tabulate (length l) f
+  filled-all f l i e =
+      ap (filled f l) e ∙ ap (λ t. tabulate (length l) f ++ t) (drop-length l) ∙ append-nil (tabulate (length l) f)
