@@ -1,1 +1,10 @@
--- The proofs of this crate's functions; each stands in the folder of its function.
+-- The laws that several functions' proofs cite, and the proofs of this crate's functions, each in the folder of its function.
+pub mod Refusals
+pub mod Sizes
+pub mod Weights
+pub mod MatrixOnes
+pub mod MatrixArray
+pub mod Tail
+pub mod DigitLoop
+pub mod DigitCells
+pub mod TaskMatch

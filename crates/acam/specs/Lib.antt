@@ -3,3 +3,4 @@ pub mod Answers
 pub mod Shapes
 pub mod Matrices
 pub mod Rows
+pub mod Arrays

@@ -9,7 +9,7 @@ ghost use Rattle.parity.proofs.Sums.{checkSum};
 
 // A digit added to the sum of each check row that its column has a one in.
 fn add_digit(sums: &mut [usize; 8], column: u8, digit: usize)
-    requires { ⌜ (digit < 256) × ((l : ℕ) → getD (now sums) l 0 < 65536) ⌝ }
+    requires { ⌜ (length (now sums) ≡ 8) × (digit < 256) × ((l : ℕ) → l < 8 → getD (now sums) l 0 < 65536) ⌝ }
     ensures { λ _. ⌜ now (sums .exit) ≡ tabulate 8 (λ l. getD (now (sums .entry)) l 0 + bit l column * digit) ⌝ }
 {
     let mut rest = wide(column);

@@ -3,6 +3,7 @@
 use mathlib.Core.Path.{_≡_, refl, sym, _∙_, ap}
 use mathlib.Core.List.{List, [], _∷_, _++_, append-nil}
 use Prim.Native.Nat.{ℕ, zero, suc, _+_, _≤_, _<_}
+use native.Mathlib.Nat.{add-zero}
 use native.Mathlib.Numerals.{add-one}
 use native.Mathlib.Omega.{arith}
 use lib.ListN.{length, getD, drop, set, length-append, length-drop}
@@ -25,6 +26,9 @@ module _ {ℓ} {A : Type ℓ} where
   pub filled-rest : (f : ℕ → A) (l : List A) (i j : ℕ) (d : A) → getD (filled f l i) (i + j) d ≡ getD l (i + j) d
   filled-rest f l i j d =
       ap (λ n. getD (filled f l i) (n + j) d) (sym (length-tabulate i f)) ∙ getD-append-add (tabulate i f) (drop i l) j d ∙ getD-drop i l j d
+
+  pub filled-here : (f : ℕ → A) (l : List A) (i : ℕ) (d : A) → getD (filled f l i) i d ≡ getD l i d
+  filled-here f l i d = rw add-zero at (filled-rest f l i 0 d)
 
   pub filled-next : (f : ℕ → A) (l : List A) (i : ℕ) → i < length l → set (filled f l i) i (f i) ≡ filled f l (i + 1)
   filled-next f [] i h = absurd (omega arith)

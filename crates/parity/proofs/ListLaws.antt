@@ -6,9 +6,10 @@ use mathlib.Core.Bool.{Bool, true, false, cond, _&&_, and-eq-true-iff}
 use mathlib.Core.List.{List, [], _∷_, _++_}
 use Prim.Native.Nat.{ℕ, zero, suc, _+_, _≤_, _<_, suc-le-suc}
 use native.Mathlib.Nat.{le-of-suc-le-suc, not-suc-le-zero, eq-or-lt-of-le, zero-lt-suc}
+use native.Mathlib.Numerals.{add-one}
 use native.Mathlib.Omega.{arith}
 use lib.Dec.{eqb, ltb}
-use lib.ListN.{length, getD, take, length-append, length-take, List·getD-append}
+use lib.ListN.{length, getD, take, replicate, length-append, length-take, replicate-append-replicate, List·getD-append}
 use lib.Seq.{getD-take, getD-append-add, getD-at}
 use borrow.Author.Tests.{eqb-true, ltb-true, ltb-false}
 use Rattle.parity.specs.Lists.{tabulate, joined, keep, every, everyTo, differences}
@@ -28,6 +29,15 @@ module _ {ℓ} {A : Type ℓ} where
       (λ (e : i ≡ n). rw e (getD-at (tabulate n f) (f n) [] d n (length-tabulate n f)))
       (λ (l : i < n). List·getD-append (tabulate n f) (f n ∷ []) d i (rw (length-tabulate n f) l) ∙ getD-tabulate n f i d l)
       (eq-or-lt-of-le (le-of-suc-le-suc h))
+
+  pub tabulate-same : (n : ℕ) (f g : ℕ → A) → ((i : ℕ) → i < n → f i ≡ g i) → tabulate n f ≡ tabulate n g
+  tabulate-same zero f g h = refl
+  tabulate-same (suc n) f g h = ap₂ (λ xs x. xs ++ (x ∷ [])) (tabulate-same n f g (λ i l. h i (omega arith))) (h n (omega arith))
+
+  pub tabulate-constant : (n : ℕ) (a : A) → tabulate n (λ i. a) ≡ replicate n a
+  tabulate-constant zero a = refl
+  tabulate-constant (suc n) a =
+      ap (λ xs. xs ++ (a ∷ [])) (tabulate-constant n a) ∙ replicate-append-replicate n 1 a ∙ ap (λ m. replicate m a) (add-one n)
 
   -- ---- a test of every element, and its passing at each place
 

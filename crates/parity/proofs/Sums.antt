@@ -3,11 +3,12 @@
 use mathlib.Core.Path.{_≡_, refl, sym, _∙_, ap, ap₂}
 use mathlib.Core.Bool.{Bool, true, false, cond}
 use mathlib.Core.List.{List, [], _∷_, _++_}
-use Prim.Native.Nat.{ℕ, zero, suc, _+_, _*_, _/_, _%_, _^_, _<_, suc-le-suc}
-use native.Mathlib.Nat.{suc-inj, mod-lt, add-zero, zero-mul, one-mul, zero-add, add-assoc, suc-ne-zero, zero-lt-suc, add-suc, suc-add}
+use Prim.Native.Nat.{ℕ, zero, suc, _+_, _*_, _/_, _%_, _^_, _≤_, _<_, suc-le-suc}
+use native.Mathlib.Nat.{suc-inj, mod-lt, add-zero, zero-mul, one-mul, zero-add, add-assoc, suc-ne-zero, zero-lt-suc, add-suc, suc-add, le-of-lt, le-of-suc-le-suc, mul-le-mul}
 use native.Mathlib.Omega.{arith}
 use lib.Dec.{eqb}
-use lib.ListN.{length, getD}
+use lib.ListN.{length, getD, take}
+use lib.Seq.{take-suc, length-take-le}
 use borrow.Author.Tests.{eqb-true, eqb-false}
 use Rattle.parity.specs.Lists.{sumOver}
 use Rattle.parity.specs.Shape.{digit}
@@ -60,3 +61,18 @@ checkSum-append f ℓ [] ds (v ∷ vs) ws e = absurd (suc-ne-zero (length vs) e)
 checkSum-append f ℓ (c ∷ cs) ds [] ws e = absurd (suc-ne-zero (length cs) (sym e))
 checkSum-append f ℓ (c ∷ cs) ds (v ∷ vs) ws e =
     ap (λ x. bit ℓ c * f v + x) (checkSum-append f ℓ cs ds vs ws (suc-inj e)) ∙ sym (add-assoc (bit ℓ c * f v) (checkSum f ℓ cs vs) (checkSum f ℓ ds ws))
+
+-- one column and one cell more
+pub checkSum-next : (f : ℕ → ℕ) (ℓ j : ℕ) (cs vs : List ℕ) → j < length cs → j < length vs
+    → checkSum f ℓ (take j cs) (take j vs) + bit ℓ (getD cs j 0) * f (getD vs j 0) ≡ checkSum f ℓ (take (suc j) cs) (take (suc j) vs)
+checkSum-next f ℓ j cs vs hc hv =
+    let seam : length (take j vs) ≡ length (take j cs) = length-take-le j vs (le-of-lt hv) ∙ sym (length-take-le j cs (le-of-lt hc)) in
+    rw (take-suc cs j 0, take-suc vs j 0, checkSum-append f ℓ (take j cs) (getD cs j 0 ∷ []) (take j vs) (getD vs j 0 ∷ []) seam, add-zero)
+
+-- what a sum of values of at most m each can reach
+pub checkSum-high : (f : ℕ → ℕ) (m ℓ : ℕ) (cs vs : List ℕ) → ((v : ℕ) → f v ≤ m) → checkSum f ℓ cs vs ≤ m * length vs
+checkSum-high f m ℓ [] vs h = omega arith
+checkSum-high f m ℓ (c ∷ cs) [] h = omega arith
+checkSum-high f m ℓ (c ∷ cs) (v ∷ vs) h =
+    let first : bit ℓ c * f v ≤ 1 * m = mul-le-mul (le-of-suc-le-suc (bit-below ℓ c)) (h v) in
+    omega (arith, checkSum-high f m ℓ cs vs h)

@@ -10,7 +10,8 @@ use Rattle.parity.specs.Codeword.{isCodeword}
 use Rattle.parity.specs.Claims.{Below}
 use Rattle.parity.specs.Questions.{Taken}
 use Rattle.parity.specs.declared.Shape.{Shape}
-use Rattle.schedule.specs.Schedule.{schedule}
+use Rattle.schedule.specs.Schedule.{Entry, schedule}
+use Rattle.schedule.specs.Index.{Place, placeIndex, entryOf}
 use Rattle.schedule.specs.Line.{lineRun, freshLine}
 
 -- The schedule has (q − 1) × W entries, whatever the number of rows.
@@ -28,3 +29,11 @@ abbrev pub CapClaim : Type 0
 CapClaim =
     (s : Shape) → Taken s → (row : List ℕ) → length row ≡ columns s
     → lineRun s row (schedule s) freshLine ≡ lineRun s (map (λ v. min v (levels s - 1)) row) (schedule s) freshLine
+
+-- Every place of the schedule stands at its index, and every entry is that of a place.
+pub record IndexClaim (s : Shape) : Type 0 where
+  pub stands :
+      (ℓ d j a : ℕ) → Place s ℓ d j a
+      → (placeIndex s ℓ d j a < length (schedule s)) × ((e : Entry) → getD (schedule s) (placeIndex s ℓ d j a) e ≡ entryOf s ℓ d j a)
+  pub found :
+      (c : ℕ) → c < length (schedule s) → (ℓ : ℕ) × (d : ℕ) × (j : ℕ) × (a : ℕ) × Place s ℓ d j a × (placeIndex s ℓ d j a ≡ c)

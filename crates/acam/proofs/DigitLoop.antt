@@ -1,0 +1,58 @@
+-- A loop over the digits of a shape that is taken: its power ρ^s, what it may ask the sums of a digit for, and what it is handed.
+-- Assumes nothing.
+use mathlib.Core.Path.{_≡_, sym, _∙_, ap}
+use mathlib.Core.List.{List}
+use Prim.Native.Nat.{ℕ, suc, _+_, _*_, _/_, _%_, _^_, _≤_, _<_}
+use native.Mathlib.Nat.{pow-suc, pow-le-pow-right, one-le-pow}
+use native.Mathlib.Numerals.{add-one}
+use native.Mathlib.Omega.{arith}
+use lib.ListN.{length, getD}
+use Rattle.parity.specs.Lists.{tabulate}
+use Rattle.parity.specs.Shape.{digit, levels, columns}
+use Rattle.parity.specs.Questions.{Taken}
+use Rattle.parity.specs.declared.Shape.{Shape}
+use Rattle.parity.proofs.ListLaws.{getD-tabulate}
+use Rattle.parity.proofs.Sums.{checkSum}
+use Rattle.parity.proofs.Taken.{limits}
+use Rattle.acam.specs.Matrices.{matrixArray}
+use Rattle.acam.proofs.Sizes.{columns-high}
+use Rattle.acam.proofs.MatrixArray.{array-sized}
+
+module _ (shape : Shape) (t : Taken shape) (s : ℕ) where
+  -- a level of s + 1 digits is a byte
+  pub power-high : s < shape .digits → shape .radix ^ suc s ≤ 256
+  unfolding levels
+  power-high h =
+      let within = limits shape t in
+      let more : shape .radix ^ suc s ≤ shape .radix ^ shape .digits = pow-le-pow-right (omega arith) h in
+      omega arith
+
+  module _ (power : ℕ) (e : power ≡ shape .radix ^ s) where
+    power-up : power * shape .radix ≡ shape .radix ^ suc s
+    power-up = ap (λ x. x * shape .radix) e ∙ sym (pow-suc (shape .radix) s)
+
+    pub power-next : power * shape .radix ≡ shape .radix ^ (s + 1)
+    power-next = power-up ∙ ap (λ n. shape .radix ^ n) (sym (add-one s))
+
+    pub power-fits : s < shape .digits → power * shape .radix ≤ 256
+    power-fits h = omega (arith, power-up, power-high h)
+
+    -- the sums can be asked for
+    pub sums-ready :
+        (cs cells : List ℕ) → cs ≡ matrixArray shape → length cells ≤ columns shape
+        → (((0 < shape .radix) × (shape .radix ≤ 256)) × (0 < power)) × ((length cells ≤ length cs) × (length cs ≤ 255))
+    sums-ready cs cells given few =
+        let within = limits shape t in
+        let pos : 0 < power = rw e (one-le-pow s (shape .radix) (omega arith)) in
+        let sized : length cs ≡ 255 = ap length given ∙ array-sized shape t in
+        omega (arith, columns-high shape t)
+
+-- the sum of check row ℓ among those of the eight
+pub sum-at :
+    (ρ s power : ℕ) (columns cells sums : List ℕ) → power ≡ ρ ^ s
+    → sums ≡ tabulate 8 (λ ℓ. checkSum (λ v. v / power % ρ) ℓ columns cells)
+    → (ℓ : ℕ) → ℓ < 8 → getD sums ℓ 0 ≡ checkSum (digit ρ s) ℓ columns cells
+unfolding digit
+sum-at ρ s power columns cells sums e given ℓ h =
+    ap (λ xs. getD xs ℓ 0) given ∙ getD-tabulate 8 (λ ℓ. checkSum (λ v. v / power % ρ) ℓ columns cells) ℓ 0 h
+    ∙ ap (λ x. checkSum (λ v. v / x % ρ) ℓ columns cells) e

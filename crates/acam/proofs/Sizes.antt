@@ -1,0 +1,24 @@
+-- The sizes of a shape taken: its columns fit an array of 255 bytes. Assumes nothing.
+use mathlib.Core.Path.{refl}
+use Prim.Native.Nat.{ℕ, _+_, _≤_}
+use native.Mathlib.Omega.{arith}
+use lib.Dec.{leb}
+use borrow.Author.Tests.{leb-true}
+use Rattle.parity.specs.Shape.{largest, checks, columns}
+use Rattle.parity.specs.Questions.{Taken}
+use Rattle.parity.specs.declared.Shape.{Shape}
+use Rattle.parity.proofs.ListLaws.{grid-at}
+use Rattle.parity.proofs.Taken.{limits}
+use Rattle.parity.proofs.Redundancy.{redundancyClaim}
+
+-- r check columns and the rule columns that they carry are at most 255 ..
+largest-high : (τ r : ℕ) → 1 ≤ τ → τ ≤ 3 → 1 ≤ r → r ≤ 8 → largest τ r + r ≤ 255
+unfolding largest
+largest-high τ r t1 t3 r1 r8 = leb-true _ _ (grid-at 3 8 (λ τ r. leb (largest τ r + r) 255) refl τ r t1 t3 r1 r8)
+
+-- .. and so are the columns of a shape
+pub columns-high : (s : Shape) → Taken s → columns s ≤ 255
+unfolding columns
+columns-high s t =
+    let claim = redundancyClaim s t in
+    omega (arith, largest-high (s .errors) (checks s) (limits s t .errorsLow) (limits s t .errorsHigh) (claim .low) (claim .high))

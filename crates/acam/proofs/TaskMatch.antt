@@ -1,0 +1,28 @@
+-- The match byte of a task lookup: the check columns, fed 0, always answer 1, so it is that of the first k cells. Assumes nothing.
+use mathlib.Core.Path.{_≡_, refl, sym, _∙_, ap, ap₂}
+use mathlib.Core.Bool.{true, cond, _&&_}
+use mathlib.Core.List.{List, [], _∷_, _++_}
+use Prim.Native.Nat.{ℕ, _+_}
+use native.Mathlib.Nat.{zero-add}
+use native.Mathlib.Omega.{arith}
+use lib.ListN.{length, take, replicate}
+use borrow.Author.Tests.{le-leb}
+use Rattle.parity.specs.Match.{answers, allAnswer, matchByte}
+
+zeros-answer : (row : List ℕ) → allAnswer (replicate (length row) 0) row ≡ true
+zeros-answer [] = refl
+zeros-answer (v ∷ row) = ap₂ _&&_ (le-leb 0 v (omega arith)) (zeros-answer row)
+
+answer-first :
+    (inputs row : List ℕ) (r : ℕ) → length row ≡ length inputs + r
+    → allAnswer (inputs ++ replicate r 0) row ≡ allAnswer inputs (take (length inputs) row)
+answer-first [] row r e = ap (λ n. allAnswer (replicate n 0) row) (sym (e ∙ zero-add r)) ∙ zeros-answer row
+answer-first (x ∷ inputs) [] r e = absurd (omega arith)
+answer-first (x ∷ inputs) (v ∷ row) r e = ap (λ t. answers x v && t) (answer-first inputs row r (omega arith))
+
+pub task-match :
+    (k r : ℕ) (inputs row : List ℕ) → length inputs ≡ k → length row ≡ k + r
+    → matchByte (inputs ++ replicate r 0) row ≡ matchByte inputs (take k row)
+unfolding matchByte
+task-match k r inputs row ek er =
+    ap (λ t. cond t 1 0) (answer-first inputs row r (er ∙ ap (λ n. n + r) (sym ek)) ∙ ap (λ n. allAnswer inputs (take n row)) ek)

@@ -1,0 +1,166 @@
+-- A whole cycle flags a row of n cells below q exactly where it is not sound: digit by digit from the highest, the counter of a check row is
+-- the sum of v / ρ^s over its cells mod ρ, which is that of the digits s. Assumes nothing.
+use mathlib.Core.Path.{_≡_, refl, sym, ap, ap₂, fun-ext, _∙_}
+use mathlib.Core.Bool.{Bool, true, false, cond, _&&_}
+use mathlib.Core.List.{List, map}
+use Prim.Native.Nat.{ℕ, suc, _+_, _-_, _*_, _/_, _%_, _^_, _≤_, _<_}
+use native.Mathlib.Nat.{zero-mod, div-eq-of-lt, one-le-mul}
+use native.Mathlib.Omega.{arith}
+use lib.Arith.{comp-comp}
+use lib.Dec.{eqb, ltb, eqb·suc-zero}
+use lib.ListN.{length, getD}
+use borrow.Author.Tests.{eq-eqb, lt-ltb}
+use Rattle.parity.specs.Lists.{joined, sumOver, everyTo}
+use Rattle.parity.specs.Shape.{digit, levels, checks, columns}
+use Rattle.parity.specs.Matrix.{support}
+use Rattle.parity.specs.Codeword.{digitSum, isCodeword}
+use Rattle.parity.specs.Claims.{Below}
+use Rattle.parity.specs.Questions.{Taken}
+use Rattle.parity.specs.declared.Shape.{Shape}
+use Rattle.parity.proofs.Taken.{limits}
+use Rattle.parity.proofs.ListLaws.{every-passes, everyTo-at, everyTo-passes}
+use Rattle.schedule.specs.Schedule.{factors, within, testVector, ofDigit, ofRow, schedule}
+use Rattle.schedule.specs.Line.{Line, lineRun}
+use Rattle.schedule.specs.Claims.{FlagClaim}
+use Rattle.schedule.proofs.All.{All, all-turn, all-pairs}
+use Rattle.schedule.proofs.Sums.{cond-same, sum-overEach, sum-map, sum-each, sum-same}
+use Rattle.schedule.proofs.Lookup.{match-unit}
+use Rattle.schedule.proofs.Counting.{answers-count}
+use Rattle.schedule.proofs.Support.{support-below, support-some}
+use Rattle.schedule.proofs.Factors.{factors-some, factors-inputs}
+use Rattle.schedule.proofs.Length.{entries, entries-length}
+use Rattle.schedule.proofs.Runs.{lineRun-joined}
+use Rattle.schedule.proofs.Digit.{line, ended, Plain, matched, run-digit}
+
+-- v / ρ^s over the cells in J(ℓ), added up
+abbrev pub shares : Shape → List ℕ → ℕ → ℕ → ℕ
+shares shape row ℓ s = sumOver (support shape ℓ) (λ j. getD row j 0 / shape .radix ^ s)
+
+-- the digits s of check row ℓ sum to 0 mod ρ
+abbrev pub balanced : Shape → List ℕ → ℕ → ℕ → Bool
+balanced shape row ℓ s = eqb (digitSum (shape .radix) s (support shape ℓ) row % shape .radix) 0
+
+-- the counter at the end of digit s of check row ℓ
+abbrev pub counterAt : Shape → List ℕ → ℕ → ℕ → ℕ
+counterAt shape row ℓ s = cond (eqb s 0) 0 (shares shape row ℓ s % shape .radix)
+
+-- the line after the i highest digits of check row ℓ, where the flag was f before
+abbrev rowLine : Shape → List ℕ → ℕ → ℕ → ℕ → Line
+rowLine shape row ℓ f i =
+    line (counterAt shape row ℓ (shape .digits - i)) (cond (everyTo i (λ i. balanced shape row ℓ (shape .digits - suc i))) f 1)
+
+-- flags one after the other
+both-flags : (a b : Bool) (f : ℕ) → cond b (cond a f 1) 1 ≡ cond (a && b) f 1
+both-flags true b f = refl
+both-flags false b f = cond-same b 1
+
+-- the digits are tested from the highest down, and in a codeword's definition from the lowest up
+everyTo-down : (n : ℕ) (p : ℕ → Bool) → everyTo n (λ i. p (n - suc i)) ≡ everyTo n p
+everyTo-down n p =
+    alike (everyTo n (λ i. p (n - suc i))) (everyTo n p)
+    (λ e. everyTo-passes n p (λ i l. rw (comp-comp l) at (everyTo-at n (λ i. p (n - suc i)) e (n - suc i) (omega arith))))
+    (λ e. everyTo-passes n (λ i. p (n - suc i)) (λ i l. everyTo-at n p e (n - suc i) (omega arith)))
+  where
+    alike : (a b : Bool) → (a ≡ true → b ≡ true) → (b ≡ true → a ≡ true) → a ≡ b
+    alike true b h k = sym (h refl)
+    alike false true h k = k refl
+    alike false false h k = refl
+
+-- v / ρ^s and its remainder, the digit, are congruent
+share-balanced : (shape : Shape) (row : List ℕ) (ℓ s : ℕ) → eqb (shares shape row ℓ s % shape .radix) 0 ≡ balanced shape row ℓ s
+unfolding digit
+share-balanced shape row ℓ s = ap (λ x. eqb x 0) (sym (sum-same (shape .radix) (λ j. getD row j 0 / shape .radix ^ s) (support shape ℓ) .rem))
+
+module _
+    (shape : Shape) (t : Taken shape) (row : List ℕ) (sized : length row ≡ columns shape) (below : Below (levels shape) (columns shape) row) where
+  -- the match bytes of one ℓ, s and j ..
+  cell-matched :
+      (ℓ s j : ℕ) → s < shape .digits → j < columns shape
+      → sumOver (map (within ℓ s j) (factors shape s)) (matched shape row) + getD row j 0 / shape .radix ^ suc s ≡ getD row j 0 / shape .radix ^ s
+  unfolding testVector
+  cell-matched ℓ s j lt l =
+      ap (λ x. x + getD row j 0 / shape .radix ^ suc s)
+      (sum-map (matched shape row) (within ℓ s j) (factors shape s)
+      ∙ ap (sumOver (factors shape s)) (fun-ext (λ a. match-unit (columns shape) j (a * shape .radix ^ s) row l sized)))
+      ∙ answers-count shape (omega (arith, limits shape t .radixLow)) s lt (getD row j 0) (below j l)
+
+  -- .. and of one ℓ and s
+  entries-matched :
+      (ℓ s : ℕ) → s < shape .digits
+      → shares shape row ℓ (suc s) + sumOver (entries shape ℓ s) (matched shape row) ≡ shares shape row ℓ s
+  entries-matched ℓ s lt =
+      omega (
+        arith,
+        sum-overEach (matched shape row) (support shape ℓ) (λ j. map (within ℓ s j) (factors shape s)),
+        sum-each _ _ _ (support shape ℓ) (all-turn _ _ (λ j. cell-matched ℓ s j lt) (support shape ℓ) (support-below shape t ℓ)),
+      )
+
+  pub digit-run :
+      (ℓ s f : ℕ) → ℓ < checks shape → s < shape .digits
+      → lineRun shape row (ofDigit shape ℓ s) (line (counterAt shape row ℓ (suc s)) f)
+      ≡ line (counterAt shape row ℓ s) (cond (balanced shape row ℓ s) f 1)
+  unfolding ofDigit
+  digit-run ℓ s f h lt =
+      let two : 2 ≤ shape .radix = limits shape t .radixLow in
+      let above : ℕ = shares shape row ℓ (suc s) in
+      let plain : All (Plain s) (entries shape ℓ s) =
+      all-pairs (Plain s) (λ j. j < columns shape) _ (within ℓ s) (λ j a l k. record { digit = refl; endsDigit = refl; endsRow = refl })
+      (support shape ℓ) (factors shape s) (support-below shape t ℓ) (factors-inputs shape two s lt) in
+      ap (λ c. lineRun shape row (ofDigit shape ℓ s) (line (cond c 0 (above % shape .radix)) f)) (eqb·suc-zero s)
+      ∙ run-digit shape row s above f (entries shape ℓ s) plain
+      (rw entries-length (one-le-mul (support-some shape t ℓ h) (factors-some shape two s lt)))
+      ∙ ap (λ x. ended s (x % shape .radix) f) (entries-matched ℓ s lt)
+      ∙ ap (λ p. line (counterAt shape row ℓ s) (cond p f 1)) (share-balanced shape row ℓ s)
+
+  -- no level has more than b digits; x + x ≡ x says that x is 0
+  shares-none : (ℓ : ℕ) → shares shape row ℓ (shape .digits) ≡ 0
+  unfolding levels
+  shares-none ℓ =
+      let f : ℕ → ℕ = λ j. getD row j 0 / shape .radix ^ shape .digits in
+      let none : (j : ℕ) → j < columns shape → f j + f j ≡ f j = λ j l. omega (arith, div-eq-of-lt (below j l)) in
+      omega (arith, sum-each f f f (support shape ℓ) (all-turn _ _ none (support shape ℓ) (support-below shape t ℓ)))
+
+  counter-start : (ℓ : ℕ) → counterAt shape row ℓ (shape .digits - 0) ≡ 0
+  counter-start ℓ =
+      let b : ℕ = shape .digits in
+      let first : b - 0 ≡ b = omega arith in
+      ap (counterAt shape row ℓ) first ∙ ap (λ x. cond (eqb b 0) 0 x) (ap (λ x. x % shape .radix) (shares-none ℓ) ∙ zero-mod (shape .radix))
+      ∙ cond-same (eqb b 0) 0
+
+  row-step :
+      (ℓ f i : ℕ) → ℓ < checks shape → i < shape .digits
+      → lineRun shape row (ofDigit shape ℓ (shape .digits - suc i)) (rowLine shape row ℓ f i) ≡ rowLine shape row ℓ f (suc i)
+  row-step ℓ f i h l =
+      let b : ℕ = shape .digits in
+      let sound : ℕ → Bool = λ i. balanced shape row ℓ (b - suc i) in
+      let flag : ℕ = cond (everyTo i sound) f 1 in
+      let next : b - i ≡ suc (b - suc i) = omega arith in
+      ap (λ s. lineRun shape row (ofDigit shape ℓ (b - suc i)) (line (counterAt shape row ℓ s) flag)) next
+      ∙ digit-run ℓ (b - suc i) flag h (omega arith) ∙ ap (line (counterAt shape row ℓ (b - suc i))) (both-flags (everyTo i sound) (sound i) f)
+
+  pub row-run :
+      (ℓ f : ℕ) → ℓ < checks shape
+      → lineRun shape row (ofRow shape ℓ) (line 0 f) ≡ line 0 (cond (everyTo (shape .digits) (balanced shape row ℓ)) f 1)
+  unfolding ofRow
+  row-run ℓ f h =
+      let b : ℕ = shape .digits in
+      let last : b - b ≡ 0 = omega arith in
+      ap (λ c. lineRun shape row (ofRow shape ℓ) (line c f)) (sym (counter-start ℓ))
+      ∙ lineRun-joined shape row b (λ i. ofDigit shape ℓ (b - suc i)) (rowLine shape row ℓ f) (λ i. row-step ℓ f i h)
+      ∙ ap₂ line (ap (counterAt shape row ℓ) last) (ap (λ p. cond p f 1) (everyTo-down b (balanced shape row ℓ)))
+
+  pub rows-run :
+      (n f : ℕ) → n ≤ checks shape
+      → lineRun shape row (joined n (ofRow shape)) (line 0 f) ≡ line 0 (cond (everyTo n (λ ℓ. everyTo (shape .digits) (balanced shape row ℓ))) f 1)
+  rows-run n f h =
+      let sound : ℕ → Bool = λ ℓ. everyTo (shape .digits) (balanced shape row ℓ) in
+      lineRun-joined shape row n (ofRow shape) (λ ℓ. line 0 (cond (everyTo ℓ sound) f 1))
+      (λ ℓ l. row-run ℓ (cond (everyTo ℓ sound) f 1) (omega arith) ∙ ap (line 0) (both-flags (everyTo ℓ sound) (sound ℓ) f))
+
+pub flagClaim : FlagClaim
+unfolding schedule isCodeword
+flagClaim s t row sized below =
+    simp (
+      eq-eqb (length row) (columns s) sized,
+      every-passes (λ v. ltb v (levels s)) row 0 (λ j h. lt-ltb _ _ (below j (omega arith))),
+    ) (rows-run s t row sized below (checks s) 0 (omega arith))

@@ -1,0 +1,2 @@
+// The detection cycle of the sorting head's array: its record, and the calls that need it.
+pub mod cycle;
