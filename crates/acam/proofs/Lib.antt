@@ -1,5 +1,4 @@
 -- The laws that several functions' proofs cite, and the proofs of this crate's functions, each in the folder of its function.
-pub mod Refusals
 pub mod Sizes
 pub mod Weights
 pub mod MatrixOnes

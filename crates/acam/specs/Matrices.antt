@@ -6,8 +6,8 @@ use Rattle.parity.specs.Shape.{columns}
 use Rattle.parity.specs.Matrix.{matrix, matrixOnes}
 use Rattle.parity.specs.Questions.{Question, firstNo, shapeQuestions, placeQuestion}
 use Rattle.parity.specs.declared.Shape.{Shape}
-use Rattle.acam.specs.declared.answer.Answer.{Answer}
-use Rattle.acam.specs.Answers.{answer}
+use Rattle.limits.specs.declared.answer.Answer.{Answer}
+use Rattle.limits.specs.Answers.{answer}
 
 -- a buffer filled from the front with the first elements of a list, as many as both have
 abbrev pub filledFrom : List ℕ → List ℕ → List ℕ

@@ -9,10 +9,10 @@ use Rattle.parity.specs.Codeword.{isCodeword, encode}
 use Rattle.parity.specs.Match.{matchByte, taskVector}
 use Rattle.parity.specs.Questions.{Question, firstNo, shapeQuestions, lengthQuestion, levelsQuestion}
 use Rattle.parity.specs.declared.Shape.{Shape}
-use Rattle.acam.specs.declared.answer.Answer.{Answer}
-use Rattle.acam.specs.declared.answer.Outcome.{Outcome}
-use Rattle.acam.specs.declared.answer.Verdict.{Verdict}
-use Rattle.acam.specs.Answers.{answer, outcome, verdict}
+use Rattle.limits.specs.declared.answer.Answer.{Answer}
+use Rattle.limits.specs.declared.answer.Outcome.{Outcome}
+use Rattle.limits.specs.declared.answer.Verdict.{Verdict}
+use Rattle.limits.specs.Answers.{answer, outcome, verdict}
 
 -- the first no to encoding a row: 1 to 5 on the shape, 6 on the row's length, 8 on its rule cells
 abbrev pub encodeRefusal : Shape → List ℕ → ℕ

@@ -1,7 +1,7 @@
 // The encoder: the check cells of a row from its rule cells.
-use super::byte::fill;
-use super::byte::wide;
 use super::sums::digit_sums;
+use limits::byte::fill;
+use limits::byte::wide;
 use parity::Shape;
 ghost use mathlib.Core.Path.{_≡_};
 ghost use Prim.Native.Nat.{ℕ, _+_, _-_, _*_, _%_, _≤_, _<_};

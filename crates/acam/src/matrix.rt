@@ -1,9 +1,9 @@
 // The parity-check matrix: the order of its columns, the columns of a shape, and their ones.
-use super::answer::Answer;
-use super::byte::fill;
-use super::byte::wide;
-use super::shape::Checked;
-use super::shape::check_shape;
+use limits::answer::Answer;
+use limits::byte::fill;
+use limits::byte::wide;
+use limits::shape::Checked;
+use limits::shape::check_shape;
 use parity::Shape;
 ghost use mathlib.Core.Path.{_≡_};
 ghost use mathlib.Core.List.{_++_};

@@ -1,15 +1,15 @@
 // The calls on one lent row.
-use super::answer::Answer;
-use super::answer::Outcome;
-use super::answer::Verdict;
-use super::byte::wide;
 use super::compare::match_byte;
 use super::encode::write_checks;
 use super::matrix::columns_of;
-use super::shape::Checked;
-use super::shape::check_shape;
 use super::sound::all_below;
 use super::sound::is_sound;
+use limits::answer::Answer;
+use limits::answer::Outcome;
+use limits::answer::Verdict;
+use limits::byte::wide;
+use limits::shape::Checked;
+use limits::shape::check_shape;
 use parity::Shape;
 ghost use mathlib.Core.Path.{_≡_};
 ghost use Rattle.acam.specs.Rows.{encodeOutcome, encodedRow, soundVerdict, matchAnswer};

@@ -1,6 +1,6 @@
 // The test of a row for soundness: whether it is a codeword.
-use super::byte::wide;
 use super::sums::digit_sums;
+use limits::byte::wide;
 use parity::Shape;
 ghost use mathlib.Core.Path.{_≡_};
 ghost use Prim.Native.Nat.{ℕ, _%_, _≤_, _<_};

@@ -1,5 +1,5 @@
 // The digits of a row's cells, added up in each check row.
-use super::byte::wide;
+use limits::byte::wide;
 ghost use mathlib.Core.Path.{_≡_};
 ghost use Prim.Native.Nat.{ℕ, _+_, _*_, _/_, _%_, _≤_, _<_};
 ghost use lib.ListN.{length, getD, take};

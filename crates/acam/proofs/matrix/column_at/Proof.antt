@@ -11,9 +11,9 @@ use Rattle.parity.specs.Matrix.{matrix}
 use Rattle.parity.specs.Questions.{Question, placeQuestion, Taken}
 use Rattle.parity.specs.declared.Shape.{Shape}
 use Rattle.parity.proofs.MatrixFacts.{matrixClaim}
-use Rattle.acam.specs.declared.answer.Answer.the-variants.{Is}
+use Rattle.limits.specs.declared.answer.Answer.the-variants.{Is}
 use Rattle.acam.specs.Matrices.{matrixArray}
-use Rattle.acam.proofs.Refusals.{passed, taken-rest, refused-rest, answer-refused}
+use Rattle.limits.proofs.Refusals.{passed, taken-rest, refused-rest, answer-refused}
 use Rattle.acam.proofs.Sizes.{columns-high}
 use Rattle.acam.proofs.matrix.column_at.Statement.{statement}
 use Rattle.acam.proofs.matrix.column_at.Tie as tie

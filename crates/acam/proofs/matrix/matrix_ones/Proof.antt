@@ -5,8 +5,8 @@ use mathlib.Core.List.{[]}
 use borrow.Author.Needs.{needs}
 use Rattle.parity.specs.Lists.{sumOver}
 use Rattle.parity.specs.Matrix.{weight, matrixOnes}
-use Rattle.acam.specs.declared.answer.Answer.the-variants.{Is}
-use Rattle.acam.proofs.Refusals.{passed, taken-rest, refused-rest, answer-refused}
+use Rattle.limits.specs.declared.answer.Answer.the-variants.{Is}
+use Rattle.limits.proofs.Refusals.{passed, taken-rest, refused-rest, answer-refused}
 use Rattle.acam.proofs.MatrixOnes.{array-ones}
 use Rattle.acam.proofs.matrix.matrix_ones.Statement.{statement}
 use Rattle.acam.proofs.matrix.matrix_ones.Tie as tie

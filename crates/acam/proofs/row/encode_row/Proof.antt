@@ -14,10 +14,10 @@ use Rattle.parity.specs.Shape.{levels, columns}
 use Rattle.parity.specs.Codeword.{encode}
 use Rattle.parity.specs.Questions.{Question, firstNo, Taken, lengthQuestion, levelsQuestion}
 use Rattle.parity.specs.declared.Shape.{Shape}
-use Rattle.acam.specs.declared.answer.Outcome.the-variants as outcomes
-use Rattle.acam.specs.Answers.{outcome}
+use Rattle.limits.specs.declared.answer.Outcome.the-variants as outcomes
+use Rattle.limits.specs.Answers.{outcome}
 use Rattle.acam.specs.Rows.{encodeOutcome, encodedRow}
-use Rattle.acam.proofs.Refusals.{Passed, passed, taken-makes, refused-makes}
+use Rattle.limits.proofs.Refusals.{Passed, passed, taken-makes, refused-makes}
 use Rattle.acam.proofs.row.encode_row.Statement.{statement}
 use Rattle.acam.proofs.row.encode_row.Tie as tie
 

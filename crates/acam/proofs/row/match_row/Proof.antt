@@ -12,11 +12,11 @@ use Rattle.parity.specs.Shape.{levels, columns, checks}
 use Rattle.parity.specs.Match.{matchByte, taskVector}
 use Rattle.parity.specs.Questions.{Question, firstNo, Taken, lengthQuestion, levelsQuestion}
 use Rattle.parity.specs.declared.Shape.{Shape}
-use Rattle.acam.specs.declared.answer.Answer.{Answer}
-use Rattle.acam.specs.declared.answer.Answer.the-variants as answers
-use Rattle.acam.specs.Answers.{answer}
+use Rattle.limits.specs.declared.answer.Answer.{Answer}
+use Rattle.limits.specs.declared.answer.Answer.the-variants as answers
+use Rattle.limits.specs.Answers.{answer}
 use Rattle.acam.specs.Rows.{matchAnswer}
-use Rattle.acam.proofs.Refusals.{Passed, passed, taken-makes, refused-makes}
+use Rattle.limits.proofs.Refusals.{Passed, passed, taken-makes, refused-makes}
 use Rattle.acam.proofs.TaskMatch.{task-match}
 use Rattle.acam.proofs.row.match_row.Statement.{statement}
 use Rattle.acam.proofs.row.match_row.Tie as tie

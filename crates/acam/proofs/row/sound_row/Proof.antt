@@ -11,11 +11,11 @@ use Rattle.parity.specs.Shape.{columns}
 use Rattle.parity.specs.Codeword.{isCodeword}
 use Rattle.parity.specs.Questions.{Question, firstNo, Taken, lengthQuestion}
 use Rattle.parity.specs.declared.Shape.{Shape}
-use Rattle.acam.specs.declared.answer.Verdict.{Verdict}
-use Rattle.acam.specs.declared.answer.Verdict.the-variants as verdicts
-use Rattle.acam.specs.Answers.{verdict}
+use Rattle.limits.specs.declared.answer.Verdict.{Verdict}
+use Rattle.limits.specs.declared.answer.Verdict.the-variants as verdicts
+use Rattle.limits.specs.Answers.{verdict}
 use Rattle.acam.specs.Rows.{soundVerdict}
-use Rattle.acam.proofs.Refusals.{Passed, passed, taken-makes, refused-makes}
+use Rattle.limits.proofs.Refusals.{Passed, passed, taken-makes, refused-makes}
 use Rattle.acam.proofs.row.sound_row.Statement.{statement}
 use Rattle.acam.proofs.row.sound_row.Tie as tie
 
