@@ -1,4 +1,3 @@
 -- What the calls of this crate give, each as one definition.
 pub mod Matrices
 pub mod Rows
-pub mod Arrays

@@ -1,19 +1,13 @@
 -- What the calls on the check matrix give.
 use mathlib.Core.List.{List, [], _∷_, _++_}
 use Prim.Native.Nat.{ℕ, _-_}
-use lib.ListN.{length, getD, take, drop, replicate}
+use lib.ListN.{getD, replicate}
 use Rattle.parity.specs.Shape.{columns}
 use Rattle.parity.specs.Matrix.{matrix, matrixOnes}
-use Rattle.parity.specs.Questions.{Question, firstNo, shapeQuestions, placeQuestion}
+use Rattle.parity.specs.Questions.{firstNo, shapeQuestions, placeQuestion}
 use Rattle.parity.specs.declared.Shape.{Shape}
 use Rattle.limits.specs.declared.answer.Answer.{Answer}
 use Rattle.limits.specs.Answers.{answer}
-
--- a buffer filled from the front with the first elements of a list, as many as both have
-abbrev pub filledFrom : List ℕ → List ℕ → List ℕ
-filledFrom xs [] = []
-filledFrom [] (b ∷ bs) = b ∷ bs
-filledFrom (x ∷ xs) (b ∷ bs) = x ∷ filledFrom xs bs
 
 -- the check matrix in an array of 255 bytes, 0 behind it
 unfoldable pub matrixArray : Shape → List ℕ

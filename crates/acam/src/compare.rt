@@ -5,7 +5,7 @@ ghost use lib.ListN.{length, take};
 ghost use Rattle.parity.specs.Match.{matchByte};
 
 // 1 where every input is at most its cell, else 0. Cells beyond the inputs are fed 0 and always answer 1.
-pub(crate) fn match_byte(inputs: &[u8], row: &[u8]) -> u8
+pub fn match_byte(inputs: &[u8], row: &[u8]) -> u8
     requires { ⌜ length (now inputs) ≤ length (now row) ⌝ }
     ensures { λ r. ⌜ r ≡ matchByte (now (inputs .entry)) (take (length (now (inputs .entry))) (now (row .entry))) ⌝ }
 {

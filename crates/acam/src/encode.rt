@@ -28,7 +28,7 @@ fn add_check_digits(cells: &mut [u8], sums: [usize; 8], radix: usize, power: usi
 }
 
 // The check cells of a row of n cells, from its k rule cells, digit after digit.
-pub(crate) fn write_checks(shape: Shape, row: &mut [u8], columns: &[u8; 255])
+pub fn write_checks(shape: Shape, row: &mut [u8], columns: &[u8; 255])
     requires { ⌜ Taken shape × (length (now row) ≡ columnsOf shape) × (now columns ≡ matrixArray shape) ⌝ }
     ensures { λ _. ⌜ now (row .exit) ≡ encode shape (take (shape .width) (now (row .entry))) ⌝ }
 {

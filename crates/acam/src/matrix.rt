@@ -9,11 +9,11 @@ ghost use mathlib.Core.Path.{_≡_};
 ghost use mathlib.Core.List.{_++_};
 ghost use Prim.Native.Nat.{_+_, _-_, _^_, _≤_, _<_};
 ghost use lib.ListN.{length, getD, take, drop, replicate};
-ghost use Rattle.parity.specs.Lists.{keep, sumOver};
+ghost use Rattle.parity.specs.Lists.{keep, sumOver, filledFrom};
 ghost use Rattle.parity.specs.Questions.{Taken};
 ghost use Rattle.parity.specs.Shape.{checks as checksOf};
 ghost use Rattle.parity.specs.Matrix.{weight, columnOrder, eligible, ruleColumns, checkColumns};
-ghost use Rattle.acam.specs.Matrices.{filledFrom, matrixArray, columnAnswer, onesAnswer};
+ghost use Rattle.acam.specs.Matrices.{matrixArray, columnAnswer, onesAnswer};
 
 // The 255 nonzero bytes, fewest ones first, and increasing among equals.
 const ORDER: [u8; 255] = [
@@ -282,14 +282,14 @@ fn in_order(place: usize) -> u8
 }
 
 // The ones of a column.
-fn ones(column: u8) -> usize
+pub fn ones(column: u8) -> usize
     ensures { λ r. ⌜ r ≡ weight column ⌝ }
 {
     u32::count_ones(column as u32) as usize
 }
 
 // 2^ℓ, the check column of check row ℓ; 2^r bounds the columns beside r check columns.
-fn power_of_two(exponent: usize) -> usize
+pub fn power_of_two(exponent: usize) -> usize
     requires { ⌜ exponent ≤ 8 ⌝ }
     ensures { λ r. ⌜ r ≡ 2 ^ exponent ⌝ }
 {
@@ -357,7 +357,7 @@ fn fill_checks(part: &mut [u8])
 }
 
 // The columns of a shape that is taken with r check columns, and 0 behind them.
-pub(crate) fn columns_of(shape: Shape, checks: usize) -> [u8; 255]
+pub fn columns_of(shape: Shape, checks: usize) -> [u8; 255]
     requires { ⌜ Taken shape × (checks ≡ checksOf shape) ⌝ }
     ensures { λ r. ⌜ r ≡ matrixArray shape ⌝ }
 {

@@ -13,7 +13,7 @@ ghost use Rattle.parity.specs.Questions.{Taken};
 ghost use Rattle.acam.specs.Matrices.{matrixArray};
 
 // Whether every byte is below a bound.
-pub(crate) fn all_below(bytes: &[u8], bound: usize) -> bool
+pub fn all_below(bytes: &[u8], bound: usize) -> bool
     ensures { λ r. ⌜ r ≡ every (λ v. ltb v bound) (now (bytes .entry)) ⌝ }
 {
     let mut j: usize = 0;
@@ -42,7 +42,7 @@ fn all_balanced(sums: [usize; 8], checks: usize, radix: usize) -> bool
 }
 
 // Whether a row of n bytes, any bytes, is sound.
-pub(crate) fn is_sound(
+pub fn is_sound(
     shape: Shape,
     checks: usize,
     levels: usize,

@@ -31,6 +31,15 @@ first-rest (q ∷ qs) more n e =
     let yes = first-yes (q .holds) (firstNo qs) (q .number) (ltb-true 0 (q .number) (both .0)) e in
     ap (λ t. cond t (firstNo (qs ++ more)) (q .number)) (yes .0) ∙ first-rest qs more (both .1) (yes .1)
 
+-- where none fails, none fails of either
+pub first-none : (qs more : List Question) → numbered qs ≡ true → firstNo (qs ++ more) ≡ 0 → (firstNo qs ≡ 0) × (firstNo more ≡ 0)
+first-none [] more n e = (refl, e)
+first-none (q ∷ qs) more n e =
+    let both = and-eq-true-iff (ltb 0 (q .number)) (numbered qs) .0 n in
+    let yes = first-yes (q .holds) (firstNo (qs ++ more)) (q .number) (ltb-true 0 (q .number) (both .0)) e in
+    let rest = first-none qs more (both .1) (yes .1) in
+    (ap (λ t. cond t (firstNo qs) (q .number)) (yes .0) ∙ rest .0, rest .1)
+
 pub first-found : (qs more : List Question) (n : ℕ) → 0 < n → firstNo qs ≡ n → firstNo (qs ++ more) ≡ n
 first-found [] more n pos e = absurd (omega arith)
 first-found (q ∷ qs) more n pos e = go (q .holds) (first-found qs more n pos) e
@@ -50,7 +59,7 @@ pub record Passed (s : Shape) (sizes : Sizes) : Type 0 where
   pub checks : sizes .checks ≡ checks s
   pub columns : sizes .columns ≡ columns s
 
-passed-by : (n : ℕ) (z sizes : Sizes) → checkedBy n z ≡ checked.Taken sizes → (n ≡ 0) × (sizes ≡ z)
+pub passed-by : (n : ℕ) (z sizes : Sizes) → checkedBy n z ≡ checked.Taken sizes → (n ≡ 0) × (sizes ≡ z)
 passed-by zero z sizes e = (refl, cc)
 passed-by (suc n) z sizes e = let never : _≡_ {A = ℕ} 0 1 = cc in absurd (omega arith)
 
@@ -64,7 +73,7 @@ passed s sizes e =
       columns = ap (λ z. z .columns) (both .1);
     }
 
-refused-by : (n : ℕ) (z : Sizes) (m : ℕ) → checkedBy n z ≡ checked.Refused m → (n ≡ m) × (0 < m)
+pub refused-by : (n : ℕ) (z : Sizes) (m : ℕ) → checkedBy n z ≡ checked.Refused m → (n ≡ m) × (0 < m)
 refused-by zero z m e = let never : _≡_ {A = ℕ} 0 1 = cc in absurd (omega arith)
 refused-by (suc n) z m e = let same : suc n ≡ m = cc in (same, omega arith)
 
@@ -82,19 +91,26 @@ refused-rest s n e more =
     (first-found (shapeQuestions s) more n (both .1) (both .0), both .1)
 
 -- ---- what a call makes of the first no: an answer, or the bytes that it leaves
-module _ {A : Type 0} (made : ℕ → A) (s : Shape) (more : List Question) where
-  pub taken-makes : Taken s → (n : ℕ) → firstNo more ≡ n → made n ≡ made (firstNo (shapeQuestions s ++ more))
-  taken-makes t n e = ap made (sym (taken-rest s t more ∙ e))
-
-  -- where it makes the same of each no
-  pub refused-makes :
-      (refusal : ℕ → A) → ((m : ℕ) → refusal (suc m) ≡ made (suc m)) → (n : ℕ) → checkedShape s ≡ checked.Refused n
-      → refusal n ≡ made (firstNo (shapeQuestions s ++ more))
-  refused-makes refusal same n e = let no = refused-rest s n e more in go n (no .1) ∙ ap made (sym (no .0))
+module _ {A : Type 0} (made : ℕ → A) where
+  -- where one of the first questions fails, and each no makes the same
+  pub found-makes :
+      (refusal : ℕ → A) → ((m : ℕ) → refusal (suc m) ≡ made (suc m)) → (qs more : List Question) (n : ℕ) → (firstNo qs ≡ n) × (0 < n)
+      → refusal n ≡ made (firstNo (qs ++ more))
+  found-makes refusal same qs more n fails = go n (fails .1) ∙ ap made (sym (first-found qs more n (fails .1) (fails .0)))
     where
       go : (n : ℕ) → 0 < n → refusal n ≡ made n
       go zero h = absurd (omega arith)
       go (suc m) h = same m
+
+  module _ (s : Shape) (more : List Question) where
+    pub taken-makes : Taken s → (n : ℕ) → firstNo more ≡ n → made n ≡ made (firstNo (shapeQuestions s ++ more))
+    taken-makes t n e = ap made (sym (taken-rest s t more ∙ e))
+
+    pub refused-makes :
+        (refusal : ℕ → A) → ((m : ℕ) → refusal (suc m) ≡ made (suc m)) → (n : ℕ) → checkedShape s ≡ checked.Refused n
+        → refusal n ≡ made (firstNo (shapeQuestions s ++ more))
+    unfolding shapeRefusal
+    refused-makes refusal same n e = found-makes refusal same (shapeQuestions s) more n (refused-by (shapeRefusal s) (sizesOf s) n e)
 
 -- an answer to a no is the refusal
 pub answer-refused : (n value : ℕ) → 0 < n → answer n value ≡ Refused n

@@ -6,6 +6,13 @@ pub enum Answer {
     Refused(u8),
 }
 
+// A row's number, none, or the number of the first question that fails.
+pub enum First {
+    Row(usize),
+    Nothing,
+    Refused(u8),
+}
+
 // Done, or the number of the first question that fails.
 pub enum Outcome {
     Done,

@@ -1,6 +1,7 @@
-// A byte read as a number, and bytes filled with one value.
+// A byte read as a number, and bytes filled with one value or copied.
 ghost use mathlib.Core.Path.{_≡_};
 ghost use lib.ListN.{length, replicate};
+ghost use Rattle.parity.specs.Lists.{filledFrom};
 
 // As a function of its own, so that a byte read from a buffer asks for its place alone.
 pub fn wide(byte: u8) -> usize
@@ -15,6 +16,20 @@ pub fn fill(part: &mut [u8], value: u8)
     let mut i: usize = 0;
     while i < part.len() {
         part[i] = value;
+        i += 1;
+    }
+}
+
+// Copies as many bytes as both have.
+pub fn copy(from: &[u8], to: &mut [u8])
+    ensures { λ _. ⌜ now (to .exit) ≡ filledFrom (now (from .entry)) (now (to .entry)) ⌝ }
+{
+    let mut i: usize = 0;
+    while i < to.len() {
+        if from.len() <= i {
+            return;
+        }
+        to[i] = from[i];
         i += 1;
     }
 }

@@ -1,14 +1,14 @@
--- A buffer written from the front, place after place, with what a function gives: the invariant of every loop that fills a buffer.
--- Assumes nothing.
+-- A buffer written from the front: with what a function gives, place after place, the invariant of every loop that fills a buffer; and with
+-- the elements of a list. Assumes nothing.
 use mathlib.Core.Path.{_≡_, refl, sym, _∙_, ap}
 use mathlib.Core.List.{List, [], _∷_, _++_, append-nil}
 use Prim.Native.Nat.{ℕ, zero, suc, _+_, _≤_, _<_}
 use native.Mathlib.Nat.{add-zero}
 use native.Mathlib.Numerals.{add-one}
 use native.Mathlib.Omega.{arith}
-use lib.ListN.{length, getD, drop, set, length-append, length-drop}
-use lib.Seq.{drop-cons, drop-length, set-at, append-snoc, getD-append-add, getD-drop}
-use Rattle.parity.specs.Lists.{tabulate}
+use lib.ListN.{length, getD, take, drop, set, length-append, length-drop}
+use lib.Seq.{take-all, drop-cons, drop-length, set-at, append-snoc, getD-append-add, getD-drop}
+use Rattle.parity.specs.Lists.{tabulate, filledFrom}
 use Rattle.parity.proofs.ListLaws.{length-tabulate}
 
 module _ {ℓ} {A : Type ℓ} where
@@ -41,3 +41,12 @@ module _ {ℓ} {A : Type ℓ} where
   pub filled-all : (f : ℕ → A) (l : List A) (i : ℕ) → i ≡ length l → filled f l i ≡ tabulate (length l) f
   filled-all f l i e =
       ap (filled f l) e ∙ ap (λ t. tabulate (length l) f ++ t) (drop-length l) ∙ append-nil (tabulate (length l) f)
+
+-- ---- from a list that is long enough, and from one that is as long
+pub filledFrom-enough : (xs bs : List ℕ) → length bs ≤ length xs → filledFrom xs bs ≡ take (length bs) xs
+filledFrom-enough xs [] h = refl
+filledFrom-enough [] (b ∷ bs) h = absurd (omega arith)
+filledFrom-enough (x ∷ xs) (b ∷ bs) h = ap (λ l. x ∷ l) (filledFrom-enough xs bs (omega arith))
+
+pub filledFrom-whole : (xs bs : List ℕ) → length xs ≡ length bs → filledFrom xs bs ≡ xs
+filledFrom-whole xs bs e = filledFrom-enough xs bs (omega arith) ∙ take-all (length bs) xs (omega arith)

@@ -45,6 +45,12 @@ abbrev pub firstFrom : (ℕ → Bool) → ℕ → ℕ → ℕ
 firstFrom p zero i = i
 firstFrom p (suc n) i = cond (p i) i (firstFrom p n (suc i))
 
+-- a buffer filled from the front with the first elements of a list, as many as both have
+abbrev pub filledFrom : List ℕ → List ℕ → List ℕ
+filledFrom xs [] = []
+filledFrom [] (b ∷ bs) = b ∷ bs
+filledFrom (x ∷ xs) (b ∷ bs) = x ∷ filledFrom xs bs
+
 -- in how many places two lists differ; a place that only one of them has is one of those
 abbrev pub differences : List ℕ → List ℕ → ℕ
 differences [] [] = 0

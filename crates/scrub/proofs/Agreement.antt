@@ -13,7 +13,7 @@ use Rattle.parity.specs.Questions.{Taken}
 use Rattle.parity.specs.declared.Shape.{Shape}
 use Rattle.parity.proofs.ListLaws.{Each}
 use Rattle.schedule.proofs.All.{All, all-at, all-turn}
-use Rattle.acam.specs.Arrays.{cellCount, rowAt}
+use Rattle.array.specs.Arrays.{cellCount, rowAt}
 use Rattle.scrub.specs.Record.{idle, cycleAt}
 use Rattle.scrub.specs.Calls.{State, fresh}
 use Rattle.scrub.specs.Log.{Course, none, open-cycle, ended, Log, blank}

@@ -16,7 +16,7 @@ use Rattle.parity.specs.declared.Shape.{Shape}
 use Rattle.parity.proofs.ListLaws.{every-at, every-passes}
 use Rattle.parity.proofs.Taken.{first-yes}
 use Rattle.schedule.proofs.All.{All}
-use Rattle.acam.specs.Arrays.{programArguments, programRefusal, driftArguments, driftRefusal}
+use Rattle.array.specs.Arrays.{programArguments, programRefusal, driftArguments, driftRefusal}
 use Rattle.scrub.specs.Record.{cycleQuestion}
 use Rattle.scrub.specs.Calls.{State, clearRefusal, startRefusal, stepArguments, stepRefusal}
 use Rattle.scrub.specs.Claims.{Sized}

@@ -9,7 +9,7 @@ use borrow.Author.Tests.{eq-eqb}
 use Rattle.parity.specs.Matrix.{lookups}
 use Rattle.parity.specs.Questions.{Taken}
 use Rattle.parity.specs.declared.Shape.{Shape}
-use Rattle.acam.specs.Arrays.{cellCount}
+use Rattle.array.specs.Arrays.{cellCount}
 use Rattle.scrub.specs.Record.{cycleAt, isNext}
 use Rattle.scrub.specs.Calls.{State, fresh, started, stepped}
 use Rattle.scrub.specs.Run.{start, step, result, runFrom, run}

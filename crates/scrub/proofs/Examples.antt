@@ -6,7 +6,7 @@ use Rattle.parity.specs.Codeword.{number, checkDigit, checkCell, encode}
 use Rattle.parity.specs.Match.{matchByte, taskVector}
 use Rattle.schedule.specs.Schedule.{factors, ofDigit, ofRow, schedule, unitVector, testVector}
 use Rattle.schedule.specs.Line.{counted, flagged, reset}
-use Rattle.acam.specs.Arrays.{cellCount, rowAt, withRow, matchBytes, driftRefusal, driftCells, programRefusal, programCells}
+use Rattle.array.specs.Arrays.{cellCount, rowAt, withRow, matchBytes, driftRefusal, driftCells, programRefusal, programCells}
 use Rattle.scrub.specs.Record.{entryAt, cycleAt, isNext}
 use Rattle.scrub.specs.Calls.{fresh, programCall, driftCall, startRefusal, started, startCall, stepRefusal, countedRows, flaggedRows, resetRows, stepMatches, stepped, stepCall}
 use Rattle.scrub.specs.Run.{run}

@@ -15,7 +15,7 @@ use Rattle.parity.specs.Codeword.{Codeword, encode}
 use Rattle.parity.specs.Questions.{Taken, firstNo}
 use Rattle.parity.specs.declared.Shape.{Shape}
 use Rattle.parity.proofs.Encoding.{encodedClaim}
-use Rattle.acam.specs.Arrays.{withRow, ifTaken, programArguments, programCells, driftArguments, driftCells}
+use Rattle.array.specs.Arrays.{withRow, ifTaken, programArguments, programCells, driftArguments, driftCells}
 use Rattle.scrub.specs.Record.{idle, isNext}
 use Rattle.scrub.specs.Calls.{State, clearCall, programCall, driftCall, lookupCall, started, stepped}
 use Rattle.scrub.specs.Run.{Call, clear, start, program, drift, lookup, step, result, runFrom}

@@ -20,7 +20,7 @@ use Rattle.schedule.proofs.Length.{lengthClaim}
 use Rattle.schedule.proofs.Flags.{flagClaim}
 use Rattle.schedule.proofs.Runs.{lineRun-take}
 use Rattle.schedule.proofs.Digit.{line}
-use Rattle.acam.specs.Arrays.{rowAt, ifTaken, matchBytes}
+use Rattle.array.specs.Arrays.{rowAt, ifTaken, matchBytes}
 use Rattle.scrub.specs.Record.{entryAt, cycleAt, isNext}
 use Rattle.scrub.specs.Calls.{State, started, startCall, countedRows, flaggedRows, resetRows, stepMatches, stepped, stepCall}
 use Rattle.scrub.specs.Run.{start, step, result}

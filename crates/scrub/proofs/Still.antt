@@ -15,7 +15,7 @@ use Rattle.parity.specs.Claims.{Below}
 use Rattle.parity.specs.Questions.{Taken}
 use Rattle.parity.specs.declared.Shape.{Shape}
 use Rattle.parity.proofs.ListLaws.{length-tabulate, getD-tabulate}
-use Rattle.acam.specs.Arrays.{cellCount, rowAt}
+use Rattle.array.specs.Arrays.{cellCount, rowAt}
 use Rattle.scrub.specs.Calls.{State}
 use Rattle.scrub.specs.Claims.{StillClaim}
 use Rattle.scrub.proofs.Steps.{lines-ended}

@@ -7,7 +7,7 @@ use Rattle.parity.specs.Questions.{Question, firstNo, shapeQuestions, lengthQue
 use Rattle.parity.specs.declared.Shape.{Shape}
 use Rattle.schedule.specs.Schedule.{Entry, testVector}
 use Rattle.schedule.specs.Line.{counted, flagged, reset}
-use Rattle.acam.specs.Arrays.{cellCount, ifTaken, matchBytes, programRefusal, programCells, driftRefusal, driftCells, lookupRefusal, lookupMatches, lookupCount}
+use Rattle.array.specs.Arrays.{cellCount, ifTaken, matchBytes, programRefusal, programCells, driftRefusal, driftCells, lookupRefusal, lookupMatches, lookupCount}
 use Rattle.scrub.specs.Record.{idle, entryAt, cycleAt, cycleQuestion}
 use Rattle.scrub.specs.declared.cycle.Cycle.{Cycle}
 

@@ -12,7 +12,7 @@ use Rattle.parity.specs.Matrix.{lookups}
 use Rattle.parity.specs.Codeword.{isCodeword}
 use Rattle.parity.specs.Questions.{Taken}
 use Rattle.parity.specs.declared.Shape.{Shape}
-use Rattle.acam.specs.Arrays.{cellCount, rowAt}
+use Rattle.array.specs.Arrays.{cellCount, rowAt}
 use Rattle.scrub.specs.Record.{cycleAt, isNext}
 use Rattle.scrub.specs.Calls.{State}
 use Rattle.scrub.specs.Run.{Call, start, program, step, runFrom, run}

@@ -5,3 +5,5 @@ pub mod Run
 pub mod Log
 pub mod Claims
 pub mod Examples
+pub mod Places
+pub mod Methods

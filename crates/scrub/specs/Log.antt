@@ -10,7 +10,7 @@ use Rattle.parity.specs.Matrix.{lookups}
 use Rattle.parity.specs.Codeword.{encode}
 use Rattle.parity.specs.Questions.{firstNo}
 use Rattle.parity.specs.declared.Shape.{Shape}
-use Rattle.acam.specs.Arrays.{programArguments, driftArguments}
+use Rattle.array.specs.Arrays.{programArguments, driftArguments}
 use Rattle.scrub.specs.Calls.{stepArguments}
 use Rattle.scrub.specs.Run.{Call, clear, start, program, drift, lookup, step}
 

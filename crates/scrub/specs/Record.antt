@@ -20,9 +20,13 @@ idle = record { phase = Idle; row = 0; digit = 0; column = 0; factor = 0; count 
 unfoldable pub entryAt : Shape → ℕ → Entry
 entryAt s c = getD (schedule s) c (within 0 0 0 0)
 
+-- the open record whose next lookup is at ℓ, s, j and a
+abbrev pub openRecord : ℕ → ℕ → ℕ → ℕ → ℕ → Cycle
+openRecord ℓ s j a c = record { phase = Open; row = ℓ; digit = s; column = j; factor = a; count = c }
+
 -- the open record whose next lookup is the entry
 abbrev pub openAt : Entry → ℕ → Cycle
-openAt e c = record { phase = Open; row = e .row; digit = e .digit; column = e .column; factor = e .factor; count = c }
+openAt e c = openRecord (e .row) (e .digit) (e .column) (e .factor) c
 
 -- the complete record
 abbrev pub completeAt : ℕ → Cycle

@@ -1,4 +1,8 @@
 // The record of a detection cycle.
+use limits::answer::Outcome;
+
+ghost use mathlib.Core.Path.{_≡_};
+ghost use Rattle.scrub.specs.Record.{idle, openRecord, completeAt, isOpen};
 
 pub enum Phase {
     Idle,
@@ -17,6 +21,12 @@ pub struct Cycle {
     pub count: usize,
 }
 
+// What a call that has the record gives back beside the bytes that it writes.
+pub struct Changed {
+    pub outcome: Outcome,
+    pub cycle: Cycle,
+}
+
 impl Cycle {
     // The record of a fresh array.
     pub const IDLE: Cycle = Cycle {
@@ -27,4 +37,47 @@ impl Cycle {
         factor: 0,
         count: 0,
     };
+
+    // The lookups of the longest cycle: 255 by the 1,024 ones of the largest check matrix. No record that
+    // a start and accepted steps leave has a larger count.
+    pub const MAX_COUNT: usize = 261120;
+
+    // The open record whose next lookup is at a place of the schedule.
+    pub fn open(row: usize, digit: usize, column: usize, factor: usize, count: usize) -> Self
+        ensures { λ r. ⌜ r ≡ openRecord row digit column factor count ⌝ }
+    {
+        Self {
+            phase: Phase::Open,
+            row,
+            digit,
+            column,
+            factor,
+            count,
+        }
+    }
+
+    // The record after a cycle's last lookup.
+    pub fn complete(count: usize) -> Self
+        ensures { λ r. ⌜ r ≡ completeAt count ⌝ }
+    {
+        Self {
+            phase: Phase::Complete,
+            row: 0,
+            digit: 0,
+            column: 0,
+            factor: 0,
+            count,
+        }
+    }
+
+    pub fn is_open(self) -> bool
+        ensures { λ r. ⌜ r ≡ isOpen (self .phase) ⌝ }
+    {
+        let phase = self.phase;
+        match phase {
+            Phase::Idle => false,
+            Phase::Open => true,
+            Phase::Complete => false,
+        }
+    }
 }

@@ -12,7 +12,7 @@ use lib.Seq.{drop-cons, take-suc-set, drop-set-lt, append-snoc, take-all}
 use Rattle.parity.specs.Lists.{keep}
 use Rattle.parity.specs.Matrix.{columnOrder, eligible}
 use Rattle.parity.proofs.ColumnOrder.{orderClaim}
-use Rattle.acam.specs.Matrices.{filledFrom}
+use Rattle.parity.specs.Lists.{filledFrom}
 use Rattle.acam.proofs.matrix.fill_lightest.Statement.{statement}
 use Rattle.acam.proofs.matrix.fill_lightest.Tie as tie
 

@@ -1,23 +1,17 @@
 -- `acam::matrix::fill_rules` meets its contract: ones for τ = 1, else the lightest eligible columns, of which there are enough.
 -- Assumes nothing.
-use mathlib.Core.Path.{_≡_, refl, _∙_, ap}
-use mathlib.Core.List.{List, [], _∷_}
-use Prim.Native.Nat.{ℕ, _≤_}
+use mathlib.Core.Path.{_≡_, _∙_}
+use mathlib.Core.List.{List}
+use Prim.Native.Nat.{ℕ}
 use native.Mathlib.Omega.{arith}
 use lib.ListN.{length, take, length-take}
 use borrow.Author.Needs.{needs}
 use borrow.Author.Tests.{eq-eqb, ne-eqb}
 use Rattle.parity.specs.Lists.{keep}
 use Rattle.parity.specs.Matrix.{columnOrder, eligible, ruleColumns}
-use Rattle.acam.specs.Matrices.{filledFrom}
+use Rattle.parity.proofs.Filled.{filledFrom-enough}
 use Rattle.acam.proofs.matrix.fill_rules.Statement.{statement}
 use Rattle.acam.proofs.matrix.fill_rules.Tie as tie
-
--- a buffer filled from a list that is as long
-filled-enough : (xs bs : List ℕ) → length bs ≤ length xs → filledFrom xs bs ≡ take (length bs) xs
-filled-enough xs [] h = refl
-filled-enough [] (b ∷ bs) h = absurd (omega arith)
-filled-enough (x ∷ xs) (b ∷ bs) h = ap (λ l. x ∷ l) (filled-enough xs bs (omega arith))
 
 fill-requires : tie.Need-fill-requires
 fill-requires c κs = search needs
@@ -46,7 +40,7 @@ returns-2 c =
     let k = length (args .part .now) in
     let not-one = ne-eqb (args .errors) 1 (c .before .before .before .before .if1 .left) in
     let enough : length (take k list) ≡ k = simp not-one at (start .pre .1) in
-    simp not-one (c .before .before .fill-lightest .ensures ∙ filled-enough list (args .part .now) (omega (arith, length-take k list)))
+    simp not-one (c .before .before .fill-lightest .ensures ∙ filledFrom-enough list (args .part .now) (omega (arith, length-take k list)))
 
 pub fill-rules-spec : {M : Type 1} → statement M
 fill-rules-spec =

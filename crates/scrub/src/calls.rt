@@ -1,0 +1,224 @@
+// The calls that have the cycle record: clear, program, start and step, and one whole cycle. A refused call
+// hands the record back as it was given and leaves every buffer as it was.
+use super::cycle::{Changed, Cycle};
+use super::passes::{count_rows, flag_rows, match_column};
+use super::place::{locate, Located, Standing};
+use limits::answer::Outcome;
+use array::cells::check_cells;
+use array::change::write_row;
+use limits::byte::fill;
+use acam::matrix::columns_of;
+use limits::shape::{check_shape, Checked, Sizes};
+use parity::Shape;
+
+ghost use mathlib.Core.Path.{_≡_};
+ghost use mathlib.Core.Bool.{true};
+ghost use mathlib.Core.List.{[]};
+ghost use Prim.Native.Nat.{_*_, _^_, _≤_, _<_};
+ghost use lib.ListN.{length};
+ghost use Rattle.parity.specs.Shape.{columns as columnsOf};
+ghost use Rattle.parity.specs.Questions.{Taken};
+ghost use Rattle.array.specs.Arrays.{cellCount};
+ghost use Rattle.scrub.specs.Record.{isNext};
+ghost use Rattle.scrub.specs.Places.{standingOf};
+ghost use Rattle.scrub.specs.Calls.{clearCall, programCall, startCall, stepMatches, stepped, stepCall};
+ghost use Rattle.scrub.specs.Methods.{stateOf, changed, refusedWith, doneWith, cycleCall};
+
+// A refusal: the record as it was given.
+fn refused(cycle: Cycle, number: u8) -> Changed
+    ensures { λ r. ⌜ r ≡ refusedWith cycle number ⌝ }
+{
+    Changed {
+        outcome: Outcome::Refused(number),
+        cycle,
+    }
+}
+
+fn done(cycle: Cycle) -> Changed
+    ensures { λ r. ⌜ r ≡ doneWith cycle ⌝ }
+{
+    Changed {
+        outcome: Outcome::Done,
+        cycle,
+    }
+}
+
+// a × ρ^s, which is below q and so a byte.
+fn input_of(shape: Shape, factor: usize, digit: usize) -> u8
+    requires { ⌜ (shape .radix ^ digit ≤ 256) × (factor * shape .radix ^ digit < 256) × (0 < factor) ⌝ }
+    ensures { λ r. ⌜ r ≡ factor * shape .radix ^ digit ⌝ }
+{
+    let radix = shape.radix;
+    let mut input = factor;
+    let mut s: usize = 0;
+    while s < digit {
+        input = input * radix;
+        s += 1;
+    }
+    input as u8
+}
+
+// The lookup of a step on all rows: the match bytes, the counters, and, where it ends a digit, the flags; after
+// the last digit of a check row the counters return to 0.
+fn look_and_count(cycle: Cycle, shape: Shape, count: usize, standing: Standing, cells: &[u8], counters: &mut [u8], flags: &mut [u8], matches: &mut [u8])
+    requires { ⌜ Taken shape × (count ≡ columnsOf shape) × ((isNext shape cycle ≡ true) × (standing ≡ standingOf shape cycle)) ⌝ }
+    requires { ⌜ (length (now cells) ≡ cellCount shape) × (length (now counters) ≡ shape .rows) × (length (now flags) ≡ shape .rows) × (length (now matches) ≡ shape .rows) ⌝ }
+    ensures matched { λ _. ⌜ now (matches .exit) ≡ stepMatches shape (stateOf (now (cells .entry)) (now (counters .entry)) (now (flags .entry)) cycle) ⌝ }
+    ensures counted { λ _. ⌜ now (counters .exit) ≡ stepped shape (stateOf (now (cells .entry)) (now (counters .entry)) (now (flags .entry)) cycle) .counters ⌝ }
+    ensures flagged { λ _. ⌜ now (flags .exit) ≡ stepped shape (stateOf (now (cells .entry)) (now (counters .entry)) (now (flags .entry)) cycle) .flags ⌝ }
+{
+    let radix = shape.radix;
+    let column = cycle.column;
+    let factor = cycle.factor;
+    let digit = cycle.digit;
+    let input = input_of(shape, factor, digit);
+    match_column(cells, count, column, input, matches);
+    count_rows(counters, matches, radix);
+    if standing.rank + 1 < standing.size {
+        return;
+    }
+    if factor + 1 < standing.span {
+        return;
+    }
+    flag_rows(counters, flags);
+    if 0 < digit {
+        return;
+    }
+    fill(counters, 0);
+}
+
+// Steps until the cycle is no longer open.
+fn run_open(cycle: Cycle, shape: Shape, cells: &[u8], counters: &mut [u8], flags: &mut [u8], matches: &mut [u8]) -> Cycle
+{
+    let mut now = cycle;
+    while now.is_open() {
+        let stepped = now.step(shape, cells, counters, flags, matches);
+        now = stepped.cycle;
+    }
+    now
+}
+
+impl Cycle {
+    // Clear: cells, counters and flags all 0, record idle: the fresh array.
+    pub fn clear(self, shape: Shape, cells: &mut [u8], counters: &mut [u8], flags: &mut [u8]) -> Changed
+        ensures answered { λ r. ⌜ r ≡ changed (clearCall shape (stateOf (now (cells .entry)) (now (counters .entry)) (now (flags .entry)) self)) ⌝ }
+        ensures kept { λ r. ⌜ now (cells .exit) ≡ clearCall shape (stateOf (now (cells .entry)) (now (counters .entry)) (now (flags .entry)) self) .state .cells ⌝ }
+        ensures counted { λ r. ⌜ now (counters .exit) ≡ clearCall shape (stateOf (now (cells .entry)) (now (counters .entry)) (now (flags .entry)) self) .state .counters ⌝ }
+        ensures flagged { λ r. ⌜ now (flags .exit) ≡ clearCall shape (stateOf (now (cells .entry)) (now (counters .entry)) (now (flags .entry)) self) .state .flags ⌝ }
+    {
+        match check_cells(shape, cells.len()) {
+            Checked::Refused(number) => refused(self, number),
+            Checked::Taken(_) => {
+                let rows = shape.rows;
+                if counters.len() != rows {
+                    return refused(self, 6);
+                }
+                if flags.len() != rows {
+                    return refused(self, 6);
+                }
+                fill(cells, 0);
+                fill(counters, 0);
+                fill(flags, 0);
+                done(Cycle::IDLE)
+            }
+        }
+    }
+
+    // Program: writes a row of k levels with its check cells; the record becomes idle.
+    pub fn program(self, shape: Shape, cells: &mut [u8], row: usize, given: &[u8]) -> Changed
+        ensures answered { λ r. ⌜ r ≡ changed (programCall shape (stateOf (now (cells .entry)) [] [] self) row (now (given .entry))) ⌝ }
+        ensures kept { λ r. ⌜ now (cells .exit) ≡ programCall shape (stateOf (now (cells .entry)) [] [] self) row (now (given .entry)) .state .cells ⌝ }
+    {
+        match write_row(shape, cells, row, given) {
+            Outcome::Refused(number) => refused(self, number),
+            Outcome::Done => done(Cycle::IDLE),
+        }
+    }
+
+    // Start: counters and flags 0, record open, also when a cycle was open.
+    pub fn start(self, shape: Shape, counters: &mut [u8], flags: &mut [u8]) -> Changed
+        ensures answered { λ r. ⌜ r ≡ changed (startCall shape (stateOf [] (now (counters .entry)) (now (flags .entry)) self)) ⌝ }
+        ensures counted { λ r. ⌜ now (counters .exit) ≡ startCall shape (stateOf [] (now (counters .entry)) (now (flags .entry)) self) .state .counters ⌝ }
+        ensures flagged { λ r. ⌜ now (flags .exit) ≡ startCall shape (stateOf [] (now (counters .entry)) (now (flags .entry)) self) .state .flags ⌝ }
+    {
+        match check_shape(shape) {
+            Checked::Refused(number) => refused(self, number),
+            Checked::Taken(sizes) => {
+                let rows = shape.rows;
+                let count = sizes.columns;
+                let checks = sizes.checks;
+                if counters.len() != rows {
+                    return refused(self, 6);
+                }
+                if flags.len() != rows {
+                    return refused(self, 6);
+                }
+                fill(counters, 0);
+                fill(flags, 0);
+                let columns = columns_of(shape, checks);
+                done(Cycle::first(shape, &columns[..count]))
+            }
+        }
+    }
+
+    // Step: makes the next lookup of the schedule and counts its matches; after the last one the record is
+    // complete.
+    pub fn step(self, shape: Shape, cells: &[u8], counters: &mut [u8], flags: &mut [u8], matches: &mut [u8]) -> Changed
+        ensures answered { λ r. ⌜ r ≡ changed (stepCall shape (stateOf (now (cells .entry)) (now (counters .entry)) (now (flags .entry)) self) (now (matches .entry))) ⌝ }
+        ensures matched { λ r. ⌜ now (matches .exit) ≡ stepCall shape (stateOf (now (cells .entry)) (now (counters .entry)) (now (flags .entry)) self) (now (matches .entry)) .matches ⌝ }
+        ensures counted { λ r. ⌜ now (counters .exit) ≡ stepCall shape (stateOf (now (cells .entry)) (now (counters .entry)) (now (flags .entry)) self) (now (matches .entry)) .state .counters ⌝ }
+        ensures flagged { λ r. ⌜ now (flags .exit) ≡ stepCall shape (stateOf (now (cells .entry)) (now (counters .entry)) (now (flags .entry)) self) (now (matches .entry)) .state .flags ⌝ }
+    {
+        match check_cells(shape, cells.len()) {
+            Checked::Refused(number) => refused(self, number),
+            Checked::Taken(sizes) => {
+                let rows = shape.rows;
+                let count = sizes.columns;
+                let checks = sizes.checks;
+                if counters.len() != rows {
+                    return refused(self, 6);
+                }
+                if flags.len() != rows {
+                    return refused(self, 6);
+                }
+                if matches.len() != rows {
+                    return refused(self, 6);
+                }
+                let columns = columns_of(shape, checks);
+                match locate(self, shape, sizes, &columns[..count]) {
+                    Located::Elsewhere => refused(self, 9),
+                    Located::At(standing) => {
+                        look_and_count(self, shape, count, standing, cells, counters, flags, matches);
+                        done(self.advance(shape, sizes, &columns[..count], standing))
+                    }
+                }
+            }
+        }
+    }
+
+    // One whole cycle: a start and all its steps.
+    pub fn run(self, shape: Shape, cells: &[u8], counters: &mut [u8], flags: &mut [u8], matches: &mut [u8]) -> Changed
+        ensures answered { λ r. ⌜ r ≡ changed (cycleCall shape (stateOf (now (cells .entry)) (now (counters .entry)) (now (flags .entry)) self) (now (matches .entry))) ⌝ }
+        ensures matched { λ r. ⌜ now (matches .exit) ≡ cycleCall shape (stateOf (now (cells .entry)) (now (counters .entry)) (now (flags .entry)) self) (now (matches .entry)) .matches ⌝ }
+        ensures counted { λ r. ⌜ now (counters .exit) ≡ cycleCall shape (stateOf (now (cells .entry)) (now (counters .entry)) (now (flags .entry)) self) (now (matches .entry)) .state .counters ⌝ }
+        ensures flagged { λ r. ⌜ now (flags .exit) ≡ cycleCall shape (stateOf (now (cells .entry)) (now (counters .entry)) (now (flags .entry)) self) (now (matches .entry)) .state .flags ⌝ }
+    {
+        match check_cells(shape, cells.len()) {
+            Checked::Refused(number) => refused(self, number),
+            Checked::Taken(_) => {
+                let rows = shape.rows;
+                if counters.len() != rows {
+                    return refused(self, 6);
+                }
+                if flags.len() != rows {
+                    return refused(self, 6);
+                }
+                if matches.len() != rows {
+                    return refused(self, 6);
+                }
+                let started = self.start(shape, counters, flags);
+                done(run_open(started.cycle, shape, cells, counters, flags, matches))
+            }
+        }
+    }
+}
