@@ -1,10 +1,10 @@
 -- What the calls on the check matrix give.
 use mathlib.Core.List.{List, [], _∷_, _++_}
 use Prim.Native.Nat.{ℕ, _-_}
-use lib.ListN.{length, getD, take, drop, replicate}
+use lib.ListN.{getD, replicate}
 use Rattle.parity.specs.Shape.{columns}
 use Rattle.parity.specs.Matrix.{matrix, matrixOnes}
-use Rattle.parity.specs.Questions.{Question, firstNo, shapeQuestions, placeQuestion}
+use Rattle.parity.specs.Questions.{firstNo, shapeQuestions, placeQuestion}
 use Rattle.parity.specs.declared.Shape.{Shape}
 use Rattle.limits.specs.declared.answer.Answer.{Answer}
 use Rattle.limits.specs.Answers.{answer}

@@ -3,7 +3,7 @@ use super::sums::digit_sums;
 use limits::byte::wide;
 use parity::Shape;
 ghost use mathlib.Core.Path.{_≡_};
-ghost use Prim.Native.Nat.{ℕ, _%_, _≤_, _<_};
+ghost use Prim.Native.Nat.{_%_, _≤_, _<_};
 ghost use lib.Dec.{eqb, ltb};
 ghost use lib.ListN.{length, getD};
 ghost use Rattle.parity.specs.Lists.{every, everyTo};

@@ -5,14 +5,11 @@ use Prim.Native.Nat.{ℕ, suc, _+_, _-_, _≤_, _<_}
 use native.Mathlib.Numerals.{add-one}
 use native.Mathlib.Omega.{arith}
 use lib.Dec.{leb}
-use borrow.Author.Needs.{needs}
 use borrow.Author.Tests.{le-leb, lt-leb}
 use Rattle.parity.specs.Lists.{firstFrom}
 use Rattle.parity.specs.Shape.{largest, redundancy}
 use Rattle.limits.proofs.shape.least_checks.Statement.{statement}
 use Rattle.limits.proofs.shape.least_checks.Tie as tie
-use Rattle.limits.proofs.shape.least_checks.Reads as reads
-use Rattle.limits.proofs.shape.least_checks.Lts as lts
 
 -- the search from r on
 abbrev from : ℕ → ℕ → ℕ → ℕ
