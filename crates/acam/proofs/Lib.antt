@@ -6,4 +6,5 @@ pub mod MatrixArray
 pub mod Tail
 pub mod DigitLoop
 pub mod DigitCells
+pub mod Comparison
 pub mod TaskMatch

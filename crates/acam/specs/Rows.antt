@@ -7,7 +7,7 @@ use lib.ListN.{length, take}
 use Rattle.parity.specs.Shape.{columns}
 use Rattle.parity.specs.Codeword.{isCodeword, encode}
 use Rattle.parity.specs.Match.{matchByte, taskVector}
-use Rattle.parity.specs.Questions.{Question, firstNo, shapeQuestions, lengthQuestion, levelsQuestion}
+use Rattle.parity.specs.Questions.{firstNo, shapeQuestions, lengthQuestion, levelsQuestion}
 use Rattle.parity.specs.declared.Shape.{Shape}
 use Rattle.limits.specs.declared.answer.Answer.{Answer}
 use Rattle.limits.specs.declared.answer.Outcome.{Outcome}

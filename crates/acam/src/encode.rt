@@ -7,9 +7,8 @@ ghost use mathlib.Core.Path.{_≡_};
 ghost use Prim.Native.Nat.{ℕ, _+_, _-_, _*_, _%_, _≤_, _<_};
 ghost use lib.ListN.{length, getD, take};
 ghost use Rattle.parity.specs.Lists.{tabulate};
-ghost use Rattle.parity.specs.Shape.{levels, columns as columnsOf};
+ghost use Rattle.parity.specs.Shape.{columns as columnsOf};
 ghost use Rattle.parity.specs.Codeword.{encode};
-ghost use Rattle.parity.specs.Claims.{Below};
 ghost use Rattle.parity.specs.Questions.{Taken};
 ghost use Rattle.acam.specs.Matrices.{matrixArray};
 

@@ -3,7 +3,7 @@ use super::sums::digit_sums;
 use limits::byte::wide;
 use parity::Shape;
 ghost use mathlib.Core.Path.{_≡_};
-ghost use Prim.Native.Nat.{ℕ, _%_, _≤_, _<_};
+ghost use Prim.Native.Nat.{_%_, _≤_, _<_};
 ghost use lib.Dec.{eqb, ltb};
 ghost use lib.ListN.{length, getD};
 ghost use Rattle.parity.specs.Lists.{every, everyTo};
@@ -42,13 +42,7 @@ fn all_balanced(sums: [usize; 8], checks: usize, radix: usize) -> bool
 }
 
 // Whether a row of n bytes, any bytes, is sound.
-pub fn is_sound(
-    shape: Shape,
-    checks: usize,
-    levels: usize,
-    row: &[u8],
-    columns: &[u8; 255],
-) -> bool
+pub fn is_sound(shape: Shape, checks: usize, levels: usize, row: &[u8], columns: &[u8; 255]) -> bool
     requires { ⌜ Taken shape × (checks ≡ checksOf shape) × (levels ≡ levelsOf shape) ⌝ }
     requires { ⌜ (length (now row) ≡ columnsOf shape) × (now columns ≡ matrixArray shape) ⌝ }
     ensures { λ r. ⌜ r ≡ isCodeword shape (now (row .entry)) ⌝ }

@@ -1,5 +1,5 @@
 -- Document 01, "Calls on one array": what the calls that need no cycle record give. Cells lie row after row, m × n of them.
-use mathlib.Core.Bool.{Bool, cond}
+use mathlib.Core.Bool.{cond}
 use mathlib.Core.List.{List, [], _∷_, _++_}
 use Prim.Native.Nat.{ℕ, suc, _+_, _*_}
 use lib.Dec.{eqb}

@@ -4,10 +4,10 @@ use acam::encode::write_checks;
 use acam::matrix::columns_of;
 use acam::sound::all_below;
 use limits::answer::Outcome;
-use limits::byte::{copy, wide};
+use limits::byte::copy;
+use limits::byte::wide;
 use limits::shape::Checked;
 use parity::Shape;
-
 ghost use mathlib.Core.Path.{_≡_};
 ghost use lib.ListN.{length};
 ghost use Rattle.parity.specs.Shape.{checks as checksOf, columns as columnsOf};

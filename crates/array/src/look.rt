@@ -2,11 +2,11 @@
 use super::cells::check_cells;
 use acam::compare::match_byte;
 use acam::sound::all_below;
-use limits::answer::{Answer, First};
+use limits::answer::Answer;
+use limits::answer::First;
 use limits::byte::wide;
 use limits::shape::Checked;
 use parity::Shape;
-
 ghost use mathlib.Core.Path.{_≡_};
 ghost use Prim.Native.Nat.{ℕ, _*_, _≤_};
 ghost use lib.ListN.{length, take, drop};

@@ -12,7 +12,7 @@ use lib.Pow.{pow-mono, pow-pos}
 use Rattle.parity.specs.Lists.{sumOver, sumTo}
 use Rattle.parity.specs.Shape.{digit}
 use Rattle.parity.specs.Matrix.{bit, weight}
-use Rattle.parity.proofs.Remainders.{Same, same-eq, same-sym, same-trans, same-add, same-cancel}
+use Rattle.parity.proofs.Remainders.{Same, same-minus}
 use Rattle.parity.proofs.Digits.{digits-equal}
 use Rattle.parity.proofs.Sums.{bit-below}
 use Rattle.parity.proofs.Changes.{Change, held, All, AllPairs}
@@ -64,10 +64,6 @@ module _ {A : Type 0} where
   weighted-minus m k g [] le = refl
   weighted-minus m k g (e ∷ es) le =
       omega (arith, weighted-minus m k g es (le .1), sym (add-mul (m e - k e) (k e) (g e)) ∙ ap (λ x. x * g e) (sub-add-cancel (le .0)))
-
--- congruent numbers taken from congruent sums
-pub same-minus : {ρ a b c d : ℕ} → 0 < ρ → Same ρ (a + c) (b + d) → Same ρ c d → Same ρ a b
-same-minus {a = a} {d = d} pos p q = same-cancel pos d (same-trans (same-add (same-eq {a = a} refl) (same-sym q)) p)
 
 -- ---- balance
 

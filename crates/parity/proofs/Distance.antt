@@ -12,13 +12,13 @@ use Rattle.parity.specs.Matrix.{matrix, support}
 use Rattle.parity.specs.Codeword.{Codeword}
 use Rattle.parity.specs.Claims.{MatrixClaim, DistanceClaim}
 use Rattle.parity.specs.declared.Shape.{Shape}
-use Rattle.parity.proofs.Remainders.{Same, same-eq, same-sym, same-trans, same-zero}
+use Rattle.parity.proofs.Remainders.{Same, same-eq, same-sym, same-trans, same-minus, same-zero}
 use Rattle.parity.proofs.Digits.{digit-below, digits-equal}
 use Rattle.parity.proofs.Sums.{checkSum, digitSum-checkSum}
 use Rattle.parity.proofs.Taken.{limits}
 use Rattle.parity.proofs.MatrixFacts.{matrixClaim}
 use Rattle.parity.proofs.Changes.{changes}
-use Rattle.parity.proofs.Detection.{same-minus, Column, unchanged}
+use Rattle.parity.proofs.Detection.{Column, unchanged}
 
 module _ (s : Shape) (m : MatrixClaim s) where
   -- a codeword's check sums are 0 mod ρ

@@ -42,6 +42,10 @@ same-cancel {ρ} {a} {b} pos c p = same-trans (same-sym (away a)) (same-trans (s
         same-trans (same-eq (add-assoc x c (ρ - c % ρ)))
         (same-trans (same-add (same-eq {a = x} refl) (complement pos c)) (same-eq (add-zero x)))
 
+-- congruent numbers taken from congruent sums
+pub same-minus : {ρ a b c d : ℕ} → 0 < ρ → Same ρ (a + c) (b + d) → Same ρ c d → Same ρ a b
+same-minus {a = a} {d = d} pos p q = same-cancel pos d (same-trans (same-add (same-eq {a = a} refl) (same-sym q)) p)
+
 pub same-below : {ρ a b : ℕ} → a < ρ → b < ρ → Same ρ a b → a ≡ b
 same-below ha hb p = sym (mod-eq-of-lt ha) ∙ p .rem ∙ mod-eq-of-lt hb
 

@@ -6,7 +6,7 @@ use mathlib.Core.List.{List, _++_}
 use Prim.Native.Nat.{ℕ, _%_, _^_, _≤_, _<_}
 use lib.ListN.{length, getD, take}
 use Rattle.parity.specs.Lists.{differences}
-use Rattle.parity.specs.Shape.{levels, largest, limit, checks, columns}
+use Rattle.parity.specs.Shape.{levels, largest, checks, columns}
 use Rattle.parity.specs.Matrix.{weight, columnOrder, eligible, ruleColumns, matrix}
 use Rattle.parity.specs.Codeword.{Codeword, encode}
 use Rattle.parity.specs.Questions.{Taken}

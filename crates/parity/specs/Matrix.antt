@@ -1,11 +1,11 @@
 -- Document 01, "Check matrix" (the paper's parity-check matrix H): a column is a number whose bit ℓ says whether it has a one in check row ℓ.
-use mathlib.Core.Bool.{Bool, true, false, cond, _&&_}
+use mathlib.Core.Bool.{Bool, cond, _&&_}
 use mathlib.Core.List.{List, [], _∷_, _++_}
-use Prim.Native.Nat.{ℕ, suc, _+_, _-_, _*_, _%_, _^_}
+use Prim.Native.Nat.{ℕ, suc, _-_, _*_, _%_, _^_}
 use lib.Dec.{eqb, leb, ltb}
 use lib.ListN.{length, take, replicate}
 use Rattle.parity.specs.Lists.{tabulate, joined, keep, sumTo}
-use Rattle.parity.specs.Shape.{digit, byErrors, levels, checks}
+use Rattle.parity.specs.Shape.{digit, levels, checks}
 use Rattle.parity.specs.declared.Shape.{Shape}
 
 -- bit ℓ of a column

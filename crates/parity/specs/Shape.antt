@@ -1,6 +1,6 @@
 -- Document 01, "Shape of an array".
-use mathlib.Core.Bool.{Bool, cond}
-use Prim.Native.Nat.{ℕ, _+_, _-_, _*_, _/_, _%_, _^_}
+use mathlib.Core.Bool.{cond}
+use Prim.Native.Nat.{ℕ, _+_, _-_, _/_, _%_, _^_}
 use lib.Dec.{eqb, leb}
 use Rattle.parity.specs.Lists.{firstFrom}
 use Rattle.parity.specs.declared.Shape.{Shape}

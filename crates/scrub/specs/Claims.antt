@@ -1,13 +1,13 @@
 -- Demand 3 as one type, and the theorems beside it; the proofs are in proofs/.
 use mathlib.Core.Path.{_≡_}
 use mathlib.Core.Logic.{_↔_}
-use mathlib.Core.Bool.{Bool, true, false, cond}
+use mathlib.Core.Bool.{true, false, cond}
 use mathlib.Core.List.{List, [], _∷_, _++_, map}
-use Prim.Native.Nat.{ℕ, suc, _≤_, _<_}
+use Prim.Native.Nat.{ℕ, _≤_, _<_}
 use lib.Dec.{eqb}
 use lib.ListN.{length, getD, take, replicate}
 use Rattle.parity.specs.Lists.{tabulate, joined, differences}
-use Rattle.parity.specs.Shape.{levels, columns}
+use Rattle.parity.specs.Shape.{levels}
 use Rattle.parity.specs.Matrix.{lookups}
 use Rattle.parity.specs.Codeword.{isCodeword}
 use Rattle.parity.specs.Questions.{Taken}
@@ -16,7 +16,7 @@ use Rattle.array.specs.Arrays.{cellCount, rowAt}
 use Rattle.scrub.specs.Record.{cycleAt, isNext}
 use Rattle.scrub.specs.Calls.{State}
 use Rattle.scrub.specs.Run.{Call, start, program, step, runFrom, run}
-use Rattle.scrub.specs.Log.{Course, none, open-cycle, ended, Log, log}
+use Rattle.scrub.specs.Log.{Course, none, open-cycle, ended, log}
 use Rattle.scrub.specs.declared.cycle.Cycle.{Cycle}
 use Rattle.scrub.specs.declared.cycle.Phase.{Phase}
 use Rattle.scrub.specs.declared.cycle.Phase.the-variants.{Idle, Open, Complete}

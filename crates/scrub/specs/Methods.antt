@@ -50,5 +50,5 @@ cycleCall s st matches =
       refusal = cycleRefusal s st matches;
       count = 0;
       matches = ifTaken (cycleRefusal s st matches) (matchBytes s (testVector s (entryAt s (lookups s - 1))) (st .cells)) matches;
-      state = ifTaken (cycleRefusal s st matches) (runFrom s st (start ∷ replicate (lookups s) (step matches))) st
+      state = ifTaken (cycleRefusal s st matches) (runFrom s st (start ∷ replicate (lookups s) (step matches))) st;
     }

@@ -20,7 +20,7 @@ surveyOf columns ℓ j =
     record {
       before = sumTo ℓ (λ l. length (placesFrom 0 l columns));
       size = length (placesFrom 0 ℓ columns);
-      rank = length (placesFrom 0 ℓ (take j columns))
+      rank = length (placesFrom 0 ℓ (take j columns));
     }
 
 -- q / ρ^s, |J(ℓ)| and the rank of j for a record's place

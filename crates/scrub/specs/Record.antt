@@ -1,10 +1,8 @@
 -- The cycle record as a function of the shape and of the accepted steps since the start.
-use mathlib.Core.Path.{_≡_}
 use mathlib.Core.Bool.{Bool, true, false, cond, _&&_}
-use Prim.Native.Nat.{ℕ, _<_}
+use Prim.Native.Nat.{ℕ}
 use lib.Dec.{eqb, ltb}
 use lib.ListN.{length, getD}
-use Rattle.parity.specs.Matrix.{lookups}
 use Rattle.parity.specs.Questions.{Question}
 use Rattle.parity.specs.declared.Shape.{Shape}
 use Rattle.schedule.specs.Schedule.{Entry, within, schedule}

@@ -1,16 +1,22 @@
 // The calls that have the cycle record: clear, program, start and step, and one whole cycle. A refused call
 // hands the record back as it was given and leaves every buffer as it was.
-use super::cycle::{Changed, Cycle};
-use super::passes::{count_rows, flag_rows, match_column};
-use super::place::{locate, Located, Standing};
-use limits::answer::Outcome;
+use super::cycle::Changed;
+use super::cycle::Cycle;
+use super::passes::count_rows;
+use super::passes::flag_rows;
+use super::passes::match_column;
+use super::place::Located;
+use super::place::Standing;
+use super::place::locate;
+use acam::matrix::columns_of;
 use array::cells::check_cells;
 use array::change::write_row;
+use limits::answer::Outcome;
 use limits::byte::fill;
-use acam::matrix::columns_of;
-use limits::shape::{check_shape, Checked, Sizes};
+use limits::shape::Checked;
+use limits::shape::Sizes;
+use limits::shape::check_shape;
 use parity::Shape;
-
 ghost use mathlib.Core.Path.{_≡_};
 ghost use mathlib.Core.Bool.{true};
 ghost use mathlib.Core.List.{[]};
@@ -60,7 +66,16 @@ fn input_of(shape: Shape, factor: usize, digit: usize) -> u8
 
 // The lookup of a step on all rows: the match bytes, the counters, and, where it ends a digit, the flags; after
 // the last digit of a check row the counters return to 0.
-fn look_and_count(cycle: Cycle, shape: Shape, count: usize, standing: Standing, cells: &[u8], counters: &mut [u8], flags: &mut [u8], matches: &mut [u8])
+fn look_and_count(
+    cycle: Cycle,
+    shape: Shape,
+    count: usize,
+    standing: Standing,
+    cells: &[u8],
+    counters: &mut [u8],
+    flags: &mut [u8],
+    matches: &mut [u8],
+)
     requires { ⌜ Taken shape × (count ≡ columnsOf shape) × ((isNext shape cycle ≡ true) × (standing ≡ standingOf shape cycle)) ⌝ }
     requires { ⌜ (length (now cells) ≡ cellCount shape) × (length (now counters) ≡ shape .rows) × (length (now flags) ≡ shape .rows) × (length (now matches) ≡ shape .rows) ⌝ }
     ensures matched { λ _. ⌜ now (matches .exit) ≡ stepMatches shape (stateOf (now (cells .entry)) (now (counters .entry)) (now (flags .entry)) cycle) ⌝ }
@@ -88,8 +103,14 @@ fn look_and_count(cycle: Cycle, shape: Shape, count: usize, standing: Standing, 
 }
 
 // Steps until the cycle is no longer open.
-fn run_open(cycle: Cycle, shape: Shape, cells: &[u8], counters: &mut [u8], flags: &mut [u8], matches: &mut [u8]) -> Cycle
-{
+fn run_open(
+    cycle: Cycle,
+    shape: Shape,
+    cells: &[u8],
+    counters: &mut [u8],
+    flags: &mut [u8],
+    matches: &mut [u8],
+) -> Cycle {
     let mut now = cycle;
     while now.is_open() {
         let stepped = now.step(shape, cells, counters, flags, matches);
@@ -100,7 +121,13 @@ fn run_open(cycle: Cycle, shape: Shape, cells: &[u8], counters: &mut [u8], flags
 
 impl Cycle {
     // Clear: cells, counters and flags all 0, record idle: the fresh array.
-    pub fn clear(self, shape: Shape, cells: &mut [u8], counters: &mut [u8], flags: &mut [u8]) -> Changed
+    pub fn clear(
+        self,
+        shape: Shape,
+        cells: &mut [u8],
+        counters: &mut [u8],
+        flags: &mut [u8],
+    ) -> Changed
         ensures answered { λ r. ⌜ r ≡ changed (clearCall shape (stateOf (now (cells .entry)) (now (counters .entry)) (now (flags .entry)) self)) ⌝ }
         ensures kept { λ r. ⌜ now (cells .exit) ≡ clearCall shape (stateOf (now (cells .entry)) (now (counters .entry)) (now (flags .entry)) self) .state .cells ⌝ }
         ensures counted { λ r. ⌜ now (counters .exit) ≡ clearCall shape (stateOf (now (cells .entry)) (now (counters .entry)) (now (flags .entry)) self) .state .counters ⌝ }
@@ -163,7 +190,14 @@ impl Cycle {
 
     // Step: makes the next lookup of the schedule and counts its matches; after the last one the record is
     // complete.
-    pub fn step(self, shape: Shape, cells: &[u8], counters: &mut [u8], flags: &mut [u8], matches: &mut [u8]) -> Changed
+    pub fn step(
+        self,
+        shape: Shape,
+        cells: &[u8],
+        counters: &mut [u8],
+        flags: &mut [u8],
+        matches: &mut [u8],
+    ) -> Changed
         ensures answered { λ r. ⌜ r ≡ changed (stepCall shape (stateOf (now (cells .entry)) (now (counters .entry)) (now (flags .entry)) self) (now (matches .entry))) ⌝ }
         ensures matched { λ r. ⌜ now (matches .exit) ≡ stepCall shape (stateOf (now (cells .entry)) (now (counters .entry)) (now (flags .entry)) self) (now (matches .entry)) .matches ⌝ }
         ensures counted { λ r. ⌜ now (counters .exit) ≡ stepCall shape (stateOf (now (cells .entry)) (now (counters .entry)) (now (flags .entry)) self) (now (matches .entry)) .state .counters ⌝ }
@@ -188,7 +222,16 @@ impl Cycle {
                 match locate(self, shape, sizes, &columns[..count]) {
                     Located::Elsewhere => refused(self, 9),
                     Located::At(standing) => {
-                        look_and_count(self, shape, count, standing, cells, counters, flags, matches);
+                        look_and_count(
+                            self,
+                            shape,
+                            count,
+                            standing,
+                            cells,
+                            counters,
+                            flags,
+                            matches,
+                        );
                         done(self.advance(shape, sizes, &columns[..count], standing))
                     }
                 }
@@ -197,7 +240,14 @@ impl Cycle {
     }
 
     // One whole cycle: a start and all its steps.
-    pub fn run(self, shape: Shape, cells: &[u8], counters: &mut [u8], flags: &mut [u8], matches: &mut [u8]) -> Changed
+    pub fn run(
+        self,
+        shape: Shape,
+        cells: &[u8],
+        counters: &mut [u8],
+        flags: &mut [u8],
+        matches: &mut [u8],
+    ) -> Changed
         ensures answered { λ r. ⌜ r ≡ changed (cycleCall shape (stateOf (now (cells .entry)) (now (counters .entry)) (now (flags .entry)) self) (now (matches .entry))) ⌝ }
         ensures matched { λ r. ⌜ now (matches .exit) ≡ cycleCall shape (stateOf (now (cells .entry)) (now (counters .entry)) (now (flags .entry)) self) (now (matches .entry)) .matches ⌝ }
         ensures counted { λ r. ⌜ now (counters .exit) ≡ cycleCall shape (stateOf (now (cells .entry)) (now (counters .entry)) (now (flags .entry)) self) (now (matches .entry)) .state .counters ⌝ }

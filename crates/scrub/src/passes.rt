@@ -1,6 +1,5 @@
 // The passes of a step over the rows.
 use limits::byte::wide;
-
 ghost use mathlib.Core.Path.{_≡_};
 ghost use mathlib.Core.Bool.{cond};
 ghost use Prim.Native.Nat.{ℕ, _+_, _*_, _%_, _≤_, _<_};
@@ -10,7 +9,13 @@ ghost use Rattle.parity.specs.Lists.{tabulate};
 
 // The match byte of every row for the vector with the input in one column and 0 elsewhere: that column alone
 // can say no.
-pub(crate) fn match_column(cells: &[u8], columns: usize, column: usize, input: u8, matches: &mut [u8])
+pub(crate) fn match_column(
+    cells: &[u8],
+    columns: usize,
+    column: usize,
+    input: u8,
+    matches: &mut [u8],
+)
     requires { ⌜ (column < columns) × (length (now matches) * columns ≤ length (now cells)) × (columns ≤ 255) ⌝ }
     ensures { λ _. ⌜ now (matches .exit) ≡ tabulate (length (now (matches .entry))) (λ i. cond (leb input (getD (now (cells .entry)) (i * columns + column) 0)) 1 0) ⌝ }
 {

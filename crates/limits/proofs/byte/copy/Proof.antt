@@ -74,10 +74,11 @@ loop-again : tie.Need-loop-again Inv-loop μ-loop
 loop-again c =
     let args = c .before .before .before .before .args in
     let turn = c .before .before .before .loop in
-    let byte = getD (args .from .now) (turn .i) 0 in
-    ((omega arith, omega arith)
-    , length-set (turn .to) (turn .i) byte ∙ turn .inv .1
-    , ap (λ l. set l (turn .i) byte) (turn .inv .2) ∙ copied-next (turn .i) (args .from .now) (args .to .now) (omega arith) (omega arith))
+    let byte = getD (args .from .now) (turn .i) 0 in (
+      (omega arith, omega arith),
+      length-set (turn .to) (turn .i) byte ∙ turn .inv .1,
+      ap (λ l. set l (turn .i) byte) (turn .inv .2) ∙ copied-next (turn .i) (args .from .now) (args .to .now) (omega arith) (omega arith),
+    )
 
 same-length-2 : tie.Need-same-length-2 Inv-loop μ-loop
 same-length-2 c = omega arith

@@ -8,8 +8,6 @@ use lib.Seq.{drop-length}
 use borrow.Author.Fill.{fill-more}
 use Rattle.limits.proofs.byte.fill.Statement.{statement}
 use Rattle.limits.proofs.byte.fill.Tie as tie
-use Rattle.limits.proofs.byte.fill.Reads as reads
-use Rattle.limits.proofs.byte.fill.Lts as lts
 
 abbrev Inv-loop : tie.InvT-loop
 Inv-loop part₀ value i₀ part i = (i ≤ length part₀) × (length part ≡ length part₀) × (part ≡ replicate i value ++ drop i part₀)

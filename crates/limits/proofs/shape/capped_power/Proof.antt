@@ -1,17 +1,14 @@
 -- `limits::shape::capped_power` meets its contract: the running power is ρ^i and at most 256; past 256 the whole power is past it too.
 -- Assumes nothing.
-use mathlib.Core.Path.{_≡_, refl, sym, _∙_, ap}
+use mathlib.Core.Path.{_≡_, sym, _∙_, ap}
 use mathlib.Core.Bool.{cond}
-use Prim.Native.Nat.{ℕ, suc, _+_, _-_, _*_, _^_, _≤_, _<_}
-use native.Mathlib.Nat.{pow-suc, pow-zero, pow-le-pow-right, le-trans, lt-of-lt-of-le, mul-le-mul, le-antisymm}
+use Prim.Native.Nat.{suc, _-_, _*_, _^_, _≤_}
+use native.Mathlib.Nat.{pow-suc, pow-zero, pow-le-pow-right, mul-le-mul}
 use native.Mathlib.Numerals.{add-one}
 use native.Mathlib.Omega.{arith}
-use lib.Dec.{leb}
 use borrow.Author.Tests.{le-leb, lt-leb}
 use Rattle.limits.proofs.shape.capped_power.Statement.{statement}
 use Rattle.limits.proofs.shape.capped_power.Tie as tie
-use Rattle.limits.proofs.shape.capped_power.Reads as reads
-use Rattle.limits.proofs.shape.capped_power.Lts as lts
 
 abbrev Inv-loop : tie.InvT-loop
 Inv-loop radix digits power₀ i₀ power i = (i ≤ digits) × (power ≡ radix ^ i) × (power ≤ 256)

@@ -8,9 +8,6 @@ use Rattle.parity.proofs.Redundancy.{redundancy-limit, past-limit, limit-high}
 use Rattle.limits.specs.declared.shape.Checked.the-variants.{Taken}
 use Rattle.limits.proofs.shape.check_columns.Statement.{statement}
 use Rattle.limits.proofs.shape.check_columns.Tie as tie
-use Rattle.limits.proofs.shape.check_columns.Reads as reads
-use Rattle.limits.proofs.shape.check_columns.Lts as lts
-use Rattle.limits.proofs.shape.least_checks.Reads as least-checks-reads
 
 returns : tie.Need-returns
 returns c = let s = c .before .args .shape in simp (range-low 1 (s .errors) (s .errors) 3 (omega arith))

@@ -1,20 +1,16 @@
 -- `limits::shape::check_shape` meets its contract: questions 1 and 2 here, the others by `check_columns`. Assumes nothing.
-use mathlib.Core.Path.{_≡_, refl, sym, _∙_, ap}
+use mathlib.Core.Path.{_≡_, refl, _∙_}
 use mathlib.Core.Bool.{Bool, true, false, cond}
 use Prim.Native.Nat.{ℕ, _^_, _≤_, _<_}
 use native.Mathlib.Omega.{arith}
 use lib.Dec.{leb}
 use borrow.Author.Needs.{needs}
-use borrow.Author.Tests.{leb-true, leb-false}
+use borrow.Author.Tests.{leb-false}
 use Rattle.parity.specs.Shape.{levels}
 use Rattle.parity.specs.Questions.{shapeRefusal}
 use Rattle.parity.proofs.Taken.{range-test, range-low, range-high}
 use Rattle.limits.proofs.shape.check_shape.Statement.{statement}
 use Rattle.limits.proofs.shape.check_shape.Tie as tie
-use Rattle.limits.proofs.shape.check_shape.Reads as reads
-use Rattle.limits.proofs.shape.check_shape.Lts as lts
-use Rattle.limits.proofs.shape.capped_power.Reads as capped-power-reads
-use Rattle.limits.proofs.shape.check_columns.Reads as check-columns-reads
 
 -- what the capped power tells of the power
 capped-high : (x : ℕ) → 256 < cond (leb x 256) x 257 → 256 < x

@@ -1,34 +1,17 @@
 -- `limits::shape::least_checks` meets its contract: what is left of the search gives the whole search's answer. Assumes nothing.
 use mathlib.Core.Path.{_≡_, refl, sym, _∙_, ap}
-use mathlib.Core.Bool.{cond}
-use Prim.Native.Nat.{ℕ, suc, _+_, _-_, _≤_, _<_}
-use native.Mathlib.Numerals.{add-one}
+use Prim.Native.Nat.{ℕ, _-_, _≤_}
 use native.Mathlib.Omega.{arith}
 use lib.Dec.{leb}
-use borrow.Author.Needs.{needs}
 use borrow.Author.Tests.{le-leb, lt-leb}
-use Rattle.parity.specs.Lists.{firstFrom}
 use Rattle.parity.specs.Shape.{largest, redundancy}
+use Rattle.limits.proofs.Search.{searched, search-found, search-missed}
 use Rattle.limits.proofs.shape.least_checks.Statement.{statement}
 use Rattle.limits.proofs.shape.least_checks.Tie as tie
-use Rattle.limits.proofs.shape.least_checks.Reads as reads
-use Rattle.limits.proofs.shape.least_checks.Lts as lts
 
 -- the search from r on
 abbrev from : ℕ → ℕ → ℕ → ℕ
-from τ k r = firstFrom (λ r. leb k (largest τ r)) (9 - r) r
-
-step : (τ k r : ℕ) → r < 9 → from τ k r ≡ cond (leb k (largest τ r)) r (from τ k (suc r))
-step τ k r h =
-    let less : 9 - r ≡ suc (9 - suc r) = omega arith in
-    ap (λ n. firstFrom (λ r. leb k (largest τ r)) n r) less
-
-found : (τ k r : ℕ) → r < 9 → k ≤ largest τ r → from τ k r ≡ r
-found τ k r h passes = step τ k r h ∙ ap (λ t. cond t r (from τ k (suc r))) (le-leb k (largest τ r) passes)
-
-missed : (τ k r : ℕ) → r < 9 → largest τ r < k → from τ k r ≡ from τ k (r + 1)
-missed τ k r h fails =
-    step τ k r h ∙ ap (λ t. cond t r (from τ k (suc r))) (lt-leb k (largest τ r) fails) ∙ ap (from τ k) (sym (add-one r))
+from τ k = searched (λ r. leb k (largest τ r)) 9
 
 abbrev Inv-loop : tie.InvT-loop
 Inv-loop errors width checks₀ checks = (1 ≤ checks) × (checks ≤ 9) × (from errors width checks ≡ redundancy errors width)
@@ -46,7 +29,10 @@ carried-requires c κs = omega arith
 returns : tie.Need-returns Inv-loop μ-loop
 returns c =
     let args = c .before .before .before .before .args in
-    sym (found (args .errors) (args .width) (c .before .before .before .loop .checks) (omega arith) (omega (arith, c .before .carried .ensures)))
+    let r = c .before .before .before .loop .checks in
+    sym
+    (search-found (λ r. leb (args .width) (largest (args .errors) r)) 9 r (omega arith)
+    (le-leb (args .width) (largest (args .errors) r) (omega (arith, c .before .carried .ensures))))
     ∙ c .before .before .before .loop .inv .2
 
 add-checks : tie.Need-add-checks Inv-loop μ-loop
@@ -57,10 +43,13 @@ loop-less c = omega arith
 
 loop-again : tie.Need-loop-again Inv-loop μ-loop
 loop-again c =
-    let args = c .before .before .before .before .args in (
+    let args = c .before .before .before .before .args in
+    let r = c .before .before .before .loop .checks in (
       omega arith,
       omega arith,
-      sym (missed (args .errors) (args .width) (c .before .before .before .loop .checks) (omega arith) (omega (arith, c .before .carried .ensures)))
+      sym
+          (search-missed (λ r. leb (args .width) (largest (args .errors) r)) 9 r (omega arith)
+          (lt-leb (args .width) (largest (args .errors) r) (omega (arith, c .before .carried .ensures))))
           ∙ c .before .before .before .loop .inv .2,
     )
 
