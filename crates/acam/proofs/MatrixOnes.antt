@@ -23,7 +23,7 @@ use Rattle.acam.specs.Matrices.{matrixArray}
 use Rattle.acam.proofs.Weights.{ones-bits, ones-weight}
 
 -- |J(ℓ)| is the bits ℓ of the columns, added up
-places-length : (j ℓ : ℕ) (cs : List ℕ) → length (placesFrom j ℓ cs) ≡ sumOver cs (bit ℓ)
+pub places-length : (j ℓ : ℕ) (cs : List ℕ) → length (placesFrom j ℓ cs) ≡ sumOver cs (bit ℓ)
 places-length j ℓ [] = refl
 places-length j ℓ (c ∷ cs) = go (eqb (bit ℓ c) 1) refl (places-length (suc j) ℓ cs)
   where
@@ -33,7 +33,7 @@ places-length j ℓ (c ∷ cs) = go (eqb (bit ℓ c) 1) refl (places-length (suc
     go true e rest = omega (arith, eqb-true (bit ℓ c) 1 e)
     go false e rest = omega (arith, bit-zero ℓ c (eqb-false (bit ℓ c) 1 e))
 
-sumTo-add : (n : ℕ) (f g : ℕ → ℕ) → sumTo n (λ i. f i + g i) ≡ sumTo n f + sumTo n g
+pub sumTo-add : (n : ℕ) (f g : ℕ → ℕ) → sumTo n (λ i. f i + g i) ≡ sumTo n f + sumTo n g
 sumTo-add zero f g = omega arith
 sumTo-add (suc n) f g = omega (arith, sumTo-add n f g)
 

@@ -22,7 +22,7 @@ use Rattle.scrub.specs.declared.cycle.Cycle.{Cycle}
 use Rattle.scrub.specs.declared.cycle.Phase.{Phase}
 use Rattle.scrub.specs.declared.cycle.Phase.the-variants.{Idle, Open, Complete}
 
-open-phase : (p : Phase) → isOpen p ≡ true → p ≡ Open
+pub open-phase : (p : Phase) → isOpen p ≡ true → p ≡ Open
 open-phase Idle e = absurd (false≢true e)
 open-phase Open e = refl
 open-phase Complete e = absurd (false≢true e)

@@ -1,4 +1,4 @@
--- The theorems on lists of calls.
+-- The theorems on lists of calls, and the laws that the proofs of the functions cite.
 pub mod Elements
 pub mod Rows
 pub mod ZeroRow
@@ -12,3 +12,11 @@ pub mod Keeping
 pub mod Detection
 pub mod Shutdown
 pub mod Examples
+pub mod Lookups
+pub mod Columns
+pub mod Spans
+pub mod NextFactor
+pub mod Places
+pub mod Following
+pub mod Pass
+pub mod StepPasses

@@ -18,9 +18,10 @@ use limits::shape::Sizes;
 use limits::shape::check_shape;
 use parity::Shape;
 ghost use mathlib.Core.Path.{_≡_};
-ghost use mathlib.Core.Bool.{true};
+ghost use mathlib.Core.Bool.{true, _&&_};
 ghost use mathlib.Core.List.{[]};
-ghost use Prim.Native.Nat.{_*_, _^_, _≤_, _<_};
+ghost use Prim.Native.Nat.{suc, _*_, _^_, _<_};
+ghost use lib.Dec.{eqb};
 ghost use lib.ListN.{length};
 ghost use Rattle.parity.specs.Shape.{columns as columnsOf};
 ghost use Rattle.parity.specs.Questions.{Taken};
@@ -50,11 +51,10 @@ fn done(cycle: Cycle) -> Changed
 }
 
 // a × ρ^s, which is below q and so a byte.
-fn input_of(shape: Shape, factor: usize, digit: usize) -> u8
-    requires { ⌜ (shape .radix ^ digit ≤ 256) × (factor * shape .radix ^ digit < 256) × (0 < factor) ⌝ }
-    ensures { λ r. ⌜ r ≡ factor * shape .radix ^ digit ⌝ }
+fn input_of(radix: usize, factor: usize, digit: usize) -> u8
+    requires { ⌜ (0 < radix) × (factor * radix ^ digit < 256) ⌝ }
+    ensures { λ r. ⌜ r ≡ factor * radix ^ digit ⌝ }
 {
-    let radix = shape.radix;
     let mut input = factor;
     let mut s: usize = 0;
     while s < digit {
@@ -62,6 +62,14 @@ fn input_of(shape: Shape, factor: usize, digit: usize) -> u8
         s += 1;
     }
     input as u8
+}
+
+// Whether the lookup of a factor is the last of its check row and digit.
+fn ends_digit(standing: Standing, factor: usize) -> bool
+    requires { ⌜ (standing .rank < standing .size) × (factor < standing .span) ⌝ }
+    ensures { λ r. ⌜ r ≡ eqb (suc (standing .rank)) (standing .size) && eqb (suc factor) (standing .span) ⌝ }
+{
+    standing.rank + 1 == standing.size && factor + 1 == standing.span
 }
 
 // The lookup of a step on all rows: the match bytes, the counters, and, where it ends a digit, the flags; after
@@ -83,16 +91,12 @@ fn look_and_count(
     ensures flagged { λ _. ⌜ now (flags .exit) ≡ stepped shape (stateOf (now (cells .entry)) (now (counters .entry)) (now (flags .entry)) cycle) .flags ⌝ }
 {
     let radix = shape.radix;
-    let column = cycle.column;
     let factor = cycle.factor;
     let digit = cycle.digit;
-    let input = input_of(shape, factor, digit);
-    match_column(cells, count, column, input, matches);
+    let input = input_of(radix, factor, digit);
+    match_column(cells, count, cycle.column, input, matches);
     count_rows(counters, matches, radix);
-    if standing.rank + 1 < standing.size {
-        return;
-    }
-    if factor + 1 < standing.span {
+    if !ends_digit(standing, factor) {
         return;
     }
     flag_rows(counters, flags);

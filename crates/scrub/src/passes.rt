@@ -16,7 +16,7 @@ pub(crate) fn match_column(
     input: u8,
     matches: &mut [u8],
 )
-    requires { ⌜ (column < columns) × (length (now matches) * columns ≤ length (now cells)) × (columns ≤ 255) ⌝ }
+    requires { ⌜ (column < columns) × (length (now matches) * columns ≤ length (now cells)) ⌝ }
     ensures { λ _. ⌜ now (matches .exit) ≡ tabulate (length (now (matches .entry))) (λ i. cond (leb input (getD (now (cells .entry)) (i * columns + column) 0)) 1 0) ⌝ }
 {
     let mut at = column;

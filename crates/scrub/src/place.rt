@@ -1,11 +1,11 @@
 // The place of a lookup in the schedule: whether a record stands at the place of its count, and the record
 // that comes next.
 use super::cycle::Cycle;
-use acam::matrix::ones;
-use acam::matrix::power_of_two;
 use limits::byte::wide;
+use acam::matrix::{ones, power_of_two};
 use limits::shape::Sizes;
 use parity::Shape;
+
 ghost use mathlib.Core.Path.{_≡_};
 ghost use mathlib.Core.Bool.{Bool, true, not, cond, _&&_};
 ghost use Prim.Native.Nat.{ℕ, suc, _+_, _-_, _*_, _/_, _%_, _^_, _≤_, _<_};
@@ -106,15 +106,12 @@ fn is_factor(factor: usize, span: usize, radix: usize) -> bool
 
 // How many lookups of the schedule come before a place.
 fn index_of(levels: usize, radix: usize, factor: usize, span: usize, survey: Survey) -> usize
-    requires { ⌜ ((1 ≤ levels) × (levels ≤ 256)) × (0 < radix) × ((1 ≤ factor) × (factor < span)) × ((span ≤ 256) × (radix ≤ span)) × ((survey .before ≤ 2040) × (survey .size ≤ 255) × (survey .rank ≤ 255)) ⌝ }
+    requires { ⌜ ((1 ≤ levels) × (levels ≤ 256)) × (0 < radix) × ((1 ≤ factor) × (factor < span)) × ((span ≤ 256) × (0 < span / radix)) × ((survey .before ≤ 2040) × (survey .size ≤ 255) × (survey .rank ≤ 255)) ⌝ }
     ensures { λ r. ⌜ r ≡ (levels - 1) * survey .before + survey .size * (span / radix - 1) + survey .rank * (span - span / radix) + (factor - 1 - (factor - 1) / radix) ⌝ }
 {
     let next = span / radix;
     let last = factor - 1;
-    (levels - 1) * survey.before
-        + survey.size * (next - 1)
-        + survey.rank * (span - next)
-        + (last - last / radix)
+    (levels - 1) * survey.before + survey.size * (next - 1) + survey.rank * (span - next) + (last - last / radix)
 }
 
 // Whether a record stands at the place of its count, with that lookup still to come, and where.
@@ -143,7 +140,7 @@ pub(crate) fn locate(cycle: Cycle, shape: Shape, sizes: Sizes, columns: &[u8]) -
     if columns.len() <= column {
         return Located::Elsewhere;
     }
-    if next_held(columns, row, column) != column {
+    if wide(columns[column]) / power_of_two(row) % 2 == 0 {
         return Located::Elsewhere;
     }
     let span = span_of(levels, radix, digit);
@@ -184,13 +181,7 @@ impl Cycle {
     }
 
     // The record after the lookup that it stands at.
-    pub(crate) fn advance(
-        mut self,
-        shape: Shape,
-        sizes: Sizes,
-        columns: &[u8],
-        standing: Standing,
-    ) -> Self
+    pub(crate) fn advance(mut self, shape: Shape, sizes: Sizes, columns: &[u8], standing: Standing) -> Self
         requires { ⌜ Taken shape × (sizes ≡ sizesOf shape) × (now columns ≡ matrix shape) ⌝ }
         requires { ⌜ (isNext shape self ≡ true) × (standing ≡ standingOf shape self) ⌝ }
         ensures { λ r. ⌜ r ≡ cycleAt shape (suc (self .count)) ⌝ }

@@ -1,0 +1,75 @@
+-- The longest cycle: 255 by the 1,024 ones of the largest check matrix. Assumes nothing.
+use mathlib.Core.Path.{_≡_, refl, ap, _∙_}
+use mathlib.Core.Logic.{⊎-elim}
+use mathlib.Core.Bool.{Bool, true}
+use mathlib.Core.List.{List, [], _∷_}
+use Prim.Native.Nat.{ℕ, zero, suc, _+_, _-_, _^_, _≤_, suc-le-suc}
+use native.Mathlib.Nat.{mul-le-mul, zero-lt-suc}
+use native.Mathlib.Omega.{arith}
+use lib.Dec.{leb}
+use lib.ListN.{length, take, drop, take-append-drop}
+use borrow.Author.Tests.{leb-true, ne-eqb}
+use Rattle.parity.specs.Lists.{keep, sumOver, everyTo}
+use Rattle.parity.specs.Shape.{digit, checks}
+use Rattle.parity.specs.Matrix.{weight, ofWeight, columnOrder, eligible, ruleColumns, checkColumns, matrix, matrixOnes, lookups}
+use Rattle.parity.specs.Questions.{Taken}
+use Rattle.parity.specs.declared.Shape.{Shape}
+use Rattle.parity.proofs.ListLaws.{Each, each-tabulate, grid-at}
+use Rattle.parity.proofs.Taken.{limits, errors-split}
+use Rattle.parity.proofs.Redundancy.{redundancyClaim}
+use Rattle.parity.proofs.MatrixFacts.{power-weight, matrixClaim}
+use Rattle.parity.proofs.CheckCells.{checkColumns-sized}
+use Rattle.acam.proofs.MatrixOnes.{matrixOnes-weights}
+use Rattle.acam.proofs.Sizes.{columns-high}
+use Rattle.schedule.proofs.Sums.{sum-append}
+
+-- columns of one one each
+sum-ones : (cs : List ℕ) → Each (λ c. weight c ≡ 1) cs → sumOver cs weight ≡ length cs
+sum-ones [] h = refl
+sum-ones (c ∷ cs) h = omega (arith, h 0 (zero-lt-suc (length cs)), sum-ones cs (λ j l. h (suc j) (suc-le-suc l)))
+
+-- the first columns have no more ones than all
+sum-take : (k : ℕ) (cs : List ℕ) → sumOver (take k cs) weight ≤ sumOver cs weight
+sum-take k cs = omega (arith, sum-append weight (take k cs) (drop k cs), ap (λ ds. sumOver ds weight) (take-append-drop k cs))
+
+-- the ones of all the columns that can stand beside r check columns, and of those, computed for τ = 2 and 3
+onesTest : List ℕ → ℕ → ℕ → Bool
+onesTest order t r = leb (sumOver (keep (eligible (suc t) r) order) weight + r) 1024
+
+tests-pass : everyTo 2 (λ t. everyTo 8 (λ r. onesTest columnOrder (suc t) (suc r))) ≡ true
+unfolding onesTest columnOrder ofWeight weight digit eligible
+tests-pass = refl
+
+rules-high : (τ r k : ℕ) → 2 ≤ τ → τ ≤ 3 → 1 ≤ r → r ≤ 8 → sumOver (ruleColumns τ r k) weight + r ≤ 1024
+unfolding onesTest ruleColumns
+rules-high zero r k low high r1 r8 = absurd (omega arith)
+rules-high (suc t) r k low high r1 r8 =
+    let list : List ℕ = keep (eligible (suc t) r) columnOrder in
+    let all : sumOver list weight + r ≤ 1024 = leb-true _ _ (grid-at 2 8 (onesTest columnOrder) tests-pass t r (omega arith) (omega arith) r1 r8) in
+    rw (ne-eqb (suc t) 1 (λ e. omega arith)) (omega (arith, sum-take k list))
+
+-- each check column has one one
+checks-sum : (r : ℕ) → r ≤ 8 → sumOver (checkColumns r) weight ≡ r
+unfolding checkColumns
+checks-sum r h =
+    sum-ones (checkColumns r) (each-tabulate (λ c. weight c ≡ 1) r (λ ℓ. 2 ^ ℓ) (λ ℓ l. power-weight ℓ (omega arith))) ∙ checkColumns-sized r
+
+matrixOnes-high : (s : Shape) → Taken s → matrixOnes s ≤ 1024
+unfolding matrix
+matrixOnes-high s t =
+    let claim = redundancyClaim s t in
+    rw (matrixOnes-weights s t)
+    (⊎-elim
+    (λ e. omega (arith, sum-ones (matrix s) (λ j l. ap weight (matrixClaim s t .ones e j (omega (arith, matrixClaim s t .sized))) ∙ power-weight 0 (omega arith)), matrixClaim s t .sized, columns-high s t))
+    (λ h.
+    omega (
+      arith,
+      sum-append weight (ruleColumns (s .errors) (checks s) (s .width)) (checkColumns (checks s)),
+      rules-high (s .errors) (checks s) (s .width) h (limits s t .errorsHigh) (claim .low) (claim .high),
+      checks-sum (checks s) (claim .high),
+    ))
+    (errors-split s t))
+
+pub lookups-high : (s : Shape) → Taken s → lookups s ≤ 261120
+unfolding lookups
+lookups-high s t = mul-le-mul {n₂ = 255} {m₂ = 1024} (omega (arith, limits s t .levelsHigh)) (matrixOnes-high s t)

@@ -1,0 +1,43 @@
+-- The spans q / ρ^d of the digits: q at digit 0, each ρ times the next, and 1 past the last digit. Assumes nothing.
+use mathlib.Core.Path.{_≡_, sym, ap, _∙_}
+use Prim.Native.Nat.{ℕ, suc, _*_, _/_, _^_, _≤_, _<_}
+use native.Mathlib.Nat.{div-self, div-one, div-le-self, div-div-eq-div-mul, pow-zero, pow-suc, one-le-pow}
+use native.Mathlib.Omega.{arith}
+use Rattle.parity.specs.Shape.{levels}
+use Rattle.parity.specs.Questions.{Taken}
+use Rattle.parity.specs.declared.Shape.{Shape}
+use Rattle.parity.proofs.Taken.{limits}
+use Rattle.schedule.specs.Index.{span}
+use Rattle.schedule.proofs.Powers.{quotient-next}
+use Rattle.schedule.proofs.Factors.{factors-some}
+use Rattle.schedule.proofs.Ranks.{span-some, span-step}
+
+module _ (s : Shape) where
+  pub span-first : span s 0 ≡ levels s
+  unfolding span
+  span-first = rw (pow-zero, div-one)
+
+  pub span-next : (d : ℕ) → span s d / s .radix ≡ span s (suc d)
+  unfolding span
+  span-next d = div-div-eq-div-mul (levels s) (s .radix ^ d) (s .radix) ∙ ap (λ x. levels s / x) (sym (pow-suc (s .radix) d))
+
+module _ (s : Shape) (t : Taken s) where
+  two : 2 ≤ s .radix
+  two = limits s t .radixLow
+
+  pub span-end : span s (s .digits) ≡ 1
+  unfolding span levels
+  span-end = div-self (one-le-pow (s .digits) (s .radix) (omega (arith, two)))
+
+  pub span-high : (d : ℕ) → span s d ≤ 256
+  unfolding span
+  span-high d = omega (arith, div-le-self (levels s) (s .radix ^ d), limits s t .levelsHigh)
+
+  module _ (d : ℕ) (h : d < s .digits) where
+    pub span-times : span s d ≡ span s (suc d) * s .radix
+    unfolding span levels
+    span-times = quotient-next (s .radix) (s .digits) (omega (arith, two)) d h
+
+    -- a digit has a factor, so the next span is less
+    pub span-less : (0 < span s (suc d)) × (span s (suc d) < span s d)
+    span-less = (span-some s two d h, omega (arith, span-step s two d h, factors-some s two d h))

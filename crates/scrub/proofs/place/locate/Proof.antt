@@ -1,0 +1,297 @@
+-- `scrub::place::locate` meets its contract: each test asks a part of what it is to stand at the place of the count, and all of them together
+-- ask it whole. Assumes nothing.
+use mathlib.Core.Path.{_≡_, refl, sym, _∙_, ap}
+use mathlib.Core.Logic.{_≢_}
+use mathlib.Core.Bool.{Bool, true, false, cond, not, _&&_, and-eq-true-iff, false≢true}
+use mathlib.Core.List.{List}
+use Prim.Native.Nat.{ℕ, suc, _+_, _-_, _*_, _/_, _%_, _^_, _≤_, _<_}
+use native.Mathlib.Omega.{arith}
+use lib.Dec.{eqb, leb, ltb}
+use lib.ListN.{length, getD, take, length-take}
+use lib.Pow.{pow-pos}
+use borrow.Author.Needs.{needs}
+use borrow.Author.Tests.{leb-true, ltb-true, eqb-false, le-leb, lt-ltb, ne-eqb, not-true, not-false}
+use Rattle.parity.specs.Shape.{levels, checks, columns}
+use Rattle.parity.specs.Matrix.{bit, matrix, support}
+use Rattle.parity.specs.Questions.{Taken}
+use Rattle.parity.specs.declared.Shape.{Shape}
+use Rattle.parity.proofs.Sums.{bit-below}
+use Rattle.parity.proofs.Taken.{limits}
+use Rattle.parity.proofs.Redundancy.{redundancyClaim}
+use Rattle.parity.proofs.MatrixFacts.{matrixClaim}
+use Rattle.acam.proofs.Sizes.{columns-high}
+use Rattle.schedule.specs.Index.{Place, rowSize, rank, span, placeIndex}
+use Rattle.scrub.specs.Record.{isOpen, isNext}
+use Rattle.scrub.specs.Places.{surveyOf, standingOf, locatedAt}
+use Rattle.scrub.specs.declared.cycle.Cycle.{Cycle}
+use Rattle.scrub.specs.declared.place.Survey.{Survey}
+use Rattle.scrub.specs.declared.place.Standing.{Standing}
+use Rattle.scrub.specs.declared.place.Located.the-variants.{At, Elsewhere}
+use Rattle.scrub.proofs.Columns.{places-high, rows-high, bit-tested}
+use Rattle.scrub.proofs.CycleRecord.{next-record}
+use Rattle.scrub.proofs.Lookups.{lookups-high}
+use Rattle.scrub.proofs.Spans.{span-first, span-next, span-high, span-less}
+use Rattle.scrub.proofs.Places.{AtPlace, next-phase, next-place, place-next}
+use Rattle.scrub.proofs.place.locate.Statement.{statement}
+use Rattle.scrub.proofs.place.locate.Tie as tie
+
+-- the index of a place as the code computes it
+index-as :
+    (s : Shape) (ℓ d j a : ℕ) {q m : ℕ} {v : Survey} → q ≡ levels s → m ≡ span s d → v ≡ surveyOf (matrix s) ℓ j
+    → (q - 1) * v .before + v .size * (m / s .radix - 1) + v .rank * (m - m / s .radix) + (a - 1 - (a - 1) / s .radix) ≡ placeIndex s ℓ d j a
+unfolding placeIndex rowSize rank support
+index-as s ℓ d j a {q} {m} {v} eq em ev =
+    let next : m / s .radix ≡ span s (suc d) = ap (λ x. x / s .radix) em ∙ span-next s d in
+    λ i.
+    (eq i - 1) * ev i .before + ev i .size * (next i - 1) + ev i .rank * (em i - next i) + (a - 1 - (a - 1) / s .radix)
+
+-- no number of a survey is above 255 for each check row
+survey-high :
+    (cs : List ℕ) (ℓ j : ℕ) {v : Survey} → v ≡ surveyOf cs ℓ j → length cs ≤ 255 → ℓ < 8 → (v .before ≤ 2040) × (v .size ≤ 255) × (v .rank ≤ 255)
+survey-high cs ℓ j e fits rows =
+    omega (
+      arith,
+      ap (λ z. z .before) e,
+      ap (λ z. z .size) e,
+      ap (λ z. z .rank) e,
+      rows-high cs fits ℓ,
+      places-high ℓ cs,
+      places-high ℓ (take j cs),
+      length-take j cs,
+    )
+
+-- the test of a factor passes exactly where a place can have it
+factor-passed : (a m ρ : ℕ) → leb 1 a && ltb a m && not (eqb (a % ρ) 0) ≡ true → (1 ≤ a) × (a < m) × (a % ρ ≢ 0)
+factor-passed a m ρ e =
+    let both = and-eq-true-iff _ (not (eqb (a % ρ) 0)) .0 e in
+    let range = and-eq-true-iff (leb 1 a) (ltb a m) .0 (both .0) in
+    (leb-true 1 a (range .0), ltb-true a m (range .1), eqb-false (a % ρ) 0 (not-true _ (both .1)))
+
+factor-passes : (a m ρ : ℕ) → 1 ≤ a → a < m → a % ρ ≢ 0 → leb 1 a && ltb a m && not (eqb (a % ρ) 0) ≡ true
+factor-passes a m ρ low high apart = simp (le-leb 1 a low, lt-ltb a m high, ne-eqb (a % ρ) 0 apart)
+
+module _ (c : tie.Start) where
+  abbrev shape : Shape
+  shape = c .args .shape
+
+  abbrev cycle : Cycle
+  cycle = c .args .cycle
+
+  taken : Taken shape
+  taken = c .pre .0
+
+  -- ---- what is given
+
+  all-checks : c .args .sizes .checks ≡ checks shape
+  all-checks = ap (λ z. z .checks) (c .pre .1)
+
+  all-levels : c .args .sizes .levels ≡ levels shape
+  all-levels = ap (λ z. z .levels) (c .pre .1)
+
+  all-columns : length (c .args .columns .now) ≡ columns shape
+  all-columns = ap length (c .pre .2) ∙ matrixClaim shape taken .sized
+
+  checks-high : checks shape ≤ 8
+  checks-high = redundancyClaim shape taken .high
+
+  -- ---- the answers
+
+  elsewhere : (isNext shape cycle ≡ true → ⊥) → Elsewhere ≡ locatedAt shape cycle
+  elsewhere not-next = go (isNext shape cycle) not-next
+    where
+      go : (b : Bool) → (b ≡ true → ⊥) → Elsewhere ≡ cond b (At (standingOf shape cycle)) Elsewhere
+      go true h = absurd (h refl)
+      go false h = refl
+
+  found : isNext shape cycle ≡ true → {v : Standing} → v ≡ standingOf shape cycle → At v ≡ locatedAt shape cycle
+  found e same = ap At same ∙ sym (ap (λ b. cond b (At (standingOf shape cycle)) Elsewhere) e)
+
+  misplaced : (AtPlace shape cycle → ⊥) → Elsewhere ≡ locatedAt shape cycle
+  misplaced not-there = elsewhere (λ e. not-there (next-place shape taken cycle e))
+
+  radix-some : 0 < shape .radix
+  radix-some = omega (arith, limits shape taken .radixLow)
+
+  levels-some : 0 < levels shape
+  levels-some = omega (arith, span-first shape, span-less shape taken 0 (limits shape taken .digitsLow))
+
+-- ---- what the tests leave
+
+abbrev counted : tie.Else5 → tie.Start
+counted c = c .before .before .before .before .before .before .before .before .before .before
+
+abbrev ranged : tie.Else6 → tie.Else5
+ranged c = c .before .before .before .before
+
+abbrev held : tie.Else7 → tie.Else6
+held c = c .before .before .before
+
+row-high : (c : tie.Else5) → cycle (counted c) .row < 8
+row-high c = let s = counted c in omega (arith, c .before .before .before .if3 .left, all-checks s, checks-high s)
+
+-- the bit that the code reads
+bit-read :
+    (c : tie.After-power-of-two)
+    → c .before .wide .result / c .power-of-two .result % 2
+    ≡ bit (cycle (counted (c .before .before .before)) .row) (getD (matrix (shape (counted (c .before .before .before)))) (cycle (counted (c .before .before .before)) .column) 0)
+bit-read c =
+    let s = counted (c .before .before .before) in
+    bit-tested (cycle s .row) _ _ _ (c .power-of-two .ensures)
+    (c .before .wide .ensures ∙ ap (λ cs. getD cs (cycle s .column) 0) (s .pre .2))
+
+own-span : (c : tie.After-span-of) → let s = counted (ranged (c .before)) in c .span-of .result ≡ span (shape s) (cycle s .digit)
+unfolding span
+own-span c = let s = counted (ranged (c .before)) in c .span-of .ensures ∙ ap (λ q. q / shape s .radix ^ cycle s .digit) (all-levels s)
+
+placed : (c : tie.Else7) → let s = counted (ranged (held c)) in Place (shape s) (cycle s .row) (cycle s .digit) (cycle s .column) (cycle s .factor)
+placed c =
+    let s = counted (ranged (held c)) in
+    let factor = factor-passed (cycle s .factor) _ (shape s .radix) (sym (c .before .is-factor .ensures) ∙ not-false _ (c .if7 .left)) in
+    record {
+      row = omega (arith, ranged (held c) .before .before .before .if3 .left, all-checks s);
+      digit = ranged (held c) .before .if4 .left;
+      column = omega (arith, ranged (held c) .if5 .left, all-columns s);
+      held = omega (arith, held c .if6 .left, bit-read (held c .before), bit-below (cycle s .row) (getD (matrix (shape s)) (cycle s .column) 0));
+      low = factor .0;
+      high = omega (arith, factor .1, own-span (c .before .before));
+      undivided = factor .2;
+    }
+
+survey :
+    (c : tie.After-survey-row)
+    → let s = counted (ranged (held (c .before))) in c .survey-row .result ≡ surveyOf (matrix (shape s)) (cycle s .row) (cycle s .column)
+survey c =
+    let s = counted (ranged (held (c .before))) in
+    c .survey-row .ensures ∙ ap (λ cs. surveyOf cs (cycle s .row) (cycle s .column)) (s .pre .2)
+
+index :
+    (c : tie.After-index-of)
+    → let s = counted (ranged (held (c .before .before))) in
+    c .index-of .result ≡ placeIndex (shape s) (cycle s .row) (cycle s .digit) (cycle s .column) (cycle s .factor)
+index c =
+    let s = counted (ranged (held (c .before .before))) in
+    c .index-of .ensures
+    ∙ index-as (shape s) (cycle s .row) (cycle s .digit) (cycle s .column) (cycle s .factor) (all-levels s)
+    (own-span (c .before .before .before .before)) (survey (c .before))
+
+is-open-requires : tie.Need-is-open-requires
+is-open-requires c κs = search needs
+
+returns : tie.Need-returns
+returns c =
+    let s = c .before .before .before in
+    elsewhere s (λ e. false≢true (sym (not-true _ (c .if1 .taken)) ∙ c .before .is-open .ensures ∙ ap isOpen (next-phase (shape s) (taken s) (cycle s) e)))
+
+returns-2 : tie.Need-returns-2
+returns-2 c =
+    let s = c .before .before .before .before .before in
+    elsewhere s (λ e. omega (arith, next-record (shape s) (taken s) (cycle s) e .0, lookups-high (shape s) (taken s)))
+
+returns-3 : tie.Need-returns-3
+returns-3 c =
+    let s = c .before .before .before .before .before .before .before in
+    misplaced s (λ at. omega (arith, at .0 .row, all-checks s))
+
+returns-4 : tie.Need-returns-4
+returns-4 c =
+    let s = c .before .before .before .before .before .before .before .before .before in
+    misplaced s (λ at. omega (arith, at .0 .digit))
+
+returns-5 : tie.Need-returns-5
+returns-5 c =
+    let s = c .before .before .before .before .before .before .before .before .before .before in
+    misplaced s (λ at. omega (arith, at .0 .column, all-columns s))
+
+shared-slice-read-wide : tie.Need-shared-slice-read-wide
+shared-slice-read-wide c = search needs
+
+wide-requires : tie.Need-wide-requires
+wide-requires c κs = search needs
+
+power-of-two-requires : tie.Need-power-of-two-requires
+power-of-two-requires c κs = omega (arith, row-high (c .before .before))
+
+div-if6 : tie.Need-div-if6
+div-if6 c = omega (arith, c .power-of-two .ensures, pow-pos (cycle (counted (c .before .before .before)) .row))
+
+returns-6 : tie.Need-returns-6
+returns-6 c = misplaced (counted (c .before .before .before .before)) (λ at. omega (arith, at .0 .held, bit-read (c .before)))
+
+span-of-requires : tie.Need-span-of-requires
+span-of-requires c κs = radix-some (counted (ranged c))
+
+is-factor-requires : tie.Need-is-factor-requires
+is-factor-requires c κs = radix-some (counted (ranged (c .before)))
+
+returns-7 : tie.Need-returns-7
+returns-7 c =
+    let s = counted (ranged (c .before .before .before)) in
+    misplaced s
+    (λ at.
+    false≢true
+    (sym (not-true _ (c .if7 .taken)) ∙ c .before .is-factor .ensures
+    ∙ factor-passes (cycle s .factor) _ (shape s .radix) (at .0 .low) (omega (arith, at .0 .high, own-span (c .before .before))) (at .0 .undivided)))
+
+survey-row-requires : tie.Need-survey-row-requires
+survey-row-requires c κs =
+    let s = counted (ranged (held c)) in
+    omega (arith, all-columns s, columns-high (shape s) (taken s), row-high (ranged (held c)))
+
+index-of-requires : tie.Need-index-of-requires
+index-of-requires c κs =
+    let x = c .before in
+    let s = counted (ranged (held x)) in
+    let d = cycle s .digit in
+    let p = placed x in
+    let e = own-span (x .before .before) in
+    let less = span-less (shape s) (taken s) d (p .digit) in
+    let next : x .before .before .span-of .result / shape s .radix ≡ span (shape s) (suc d) = ap (λ m. m / shape s .radix) e ∙ span-next (shape s) d in
+    let sized = matrixClaim (shape s) (taken s) .sized in (
+      omega (arith, all-levels s, levels-some s, limits (shape s) (taken s) .levelsHigh),
+      radix-some s,
+      (p .low, omega (arith, p .high)),
+      (omega (arith, span-high (shape s) (taken s) d), omega arith),
+      survey-high (matrix (shape s)) (cycle s .row) (cycle s .column) (survey c) (omega (arith, columns-high (shape s) (taken s)))
+      (row-high (ranged (held x))),
+    )
+
+returns-8 : tie.Need-returns-8
+returns-8 c =
+    let s = counted (ranged (held (c .before .before .before .before))) in
+    misplaced s (λ at. c .if8 .taken (index (c .before .before) ∙ at .1))
+
+returns-9 : tie.Need-returns-9
+unfolding rowSize rank support
+returns-9 c =
+    let x = c .before .before .before .before in
+    let s = counted (ranged (held x)) in
+    let opened = ranged (held x) .before .before .before .before .before .before .before in
+    let e = own-span (x .before .before) in
+    let v = survey (c .before .before .before) in
+    let next : isNext (shape s) (cycle s) ≡ true =
+    place-next (shape s) (taken s) (cycle s) (sym (opened .before .is-open .ensures) ∙ not-false _ (opened .if1 .left))
+    (placed x, sym (index (c .before .before)) ∙ c .if8 .left) in
+    found s next (λ i. record { span = e i; size = v i .size; rank = v i .rank })
+
+pub locate-spec : {M : Type 1} → statement M
+locate-spec =
+    tie.close
+    (tie.spec
+    is-open-requires
+    returns
+    returns-2
+    returns-3
+    returns-4
+    returns-5
+    shared-slice-read-wide
+    wide-requires
+    power-of-two-requires
+    div-if6
+    returns-6
+    span-of-requires
+    is-factor-requires
+    returns-7
+    survey-row-requires
+    index-of-requires
+    returns-8
+    returns-9)
