@@ -20,3 +20,7 @@ pub mod Places
 pub mod Following
 pub mod Pass
 pub mod StepPasses
+pub mod Lent
+pub mod Given
+pub mod MatrixPart
+pub mod WholeCycle

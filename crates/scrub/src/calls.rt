@@ -14,21 +14,24 @@ use array::change::write_row;
 use limits::answer::Outcome;
 use limits::byte::fill;
 use limits::shape::Checked;
-use limits::shape::Sizes;
 use limits::shape::check_shape;
 use parity::Shape;
 ghost use mathlib.Core.Path.{_≡_};
 ghost use mathlib.Core.Bool.{true, _&&_};
-ghost use mathlib.Core.List.{[]};
-ghost use Prim.Native.Nat.{suc, _*_, _^_, _<_};
+ghost use mathlib.Core.List.{[], _∷_, _++_};
+ghost use Prim.Native.Nat.{suc, _-_, _*_, _^_, _<_};
 ghost use lib.Dec.{eqb};
-ghost use lib.ListN.{length};
+ghost use lib.ListN.{length, replicate};
 ghost use Rattle.parity.specs.Shape.{columns as columnsOf};
-ghost use Rattle.parity.specs.Questions.{Taken};
-ghost use Rattle.array.specs.Arrays.{cellCount};
-ghost use Rattle.scrub.specs.Record.{isNext};
+ghost use Rattle.parity.specs.Matrix.{lookups};
+ghost use Rattle.parity.specs.Questions.{firstNo, shapeQuestions, lengthQuestion, Taken};
+ghost use Rattle.schedule.specs.Schedule.{testVector};
+ghost use Rattle.limits.specs.Shapes.{checkedBy, sizesOf};
+ghost use Rattle.array.specs.Arrays.{cellCount, matchBytes};
+ghost use Rattle.scrub.specs.Record.{entryAt, cycleAt, isNext};
 ghost use Rattle.scrub.specs.Places.{standingOf};
 ghost use Rattle.scrub.specs.Calls.{clearCall, programCall, startCall, stepMatches, stepped, stepCall};
+ghost use Rattle.scrub.specs.Run.{step, runFrom};
 ghost use Rattle.scrub.specs.Methods.{stateOf, changed, refusedWith, doneWith, cycleCall};
 
 // A refusal: the record as it was given.
@@ -106,7 +109,26 @@ fn look_and_count(
     fill(counters, 0);
 }
 
-// Steps until the cycle is no longer open.
+// Questions 1 to 5, and 6 on cells, counters and flags.
+fn check_lent(shape: Shape, cells: usize, counters: usize, flags: usize) -> Checked
+    ensures { λ r. ⌜ r ≡ checkedBy (firstNo (shapeQuestions shape ++ lengthQuestion cells (cellCount shape) ∷ lengthQuestion counters (shape .rows) ∷ lengthQuestion flags (shape .rows) ∷ [])) (sizesOf shape) ⌝ }
+{
+    match check_cells(shape, cells) {
+        Checked::Refused(number) => Checked::Refused(number),
+        Checked::Taken(sizes) => {
+            let rows = shape.rows;
+            if counters != rows {
+                return Checked::Refused(6);
+            }
+            if flags != rows {
+                return Checked::Refused(6);
+            }
+            Checked::Taken(sizes)
+        }
+    }
+}
+
+// The steps of a cycle that is just started.
 fn run_open(
     cycle: Cycle,
     shape: Shape,
@@ -114,7 +136,12 @@ fn run_open(
     counters: &mut [u8],
     flags: &mut [u8],
     matches: &mut [u8],
-) -> Cycle {
+) -> Cycle
+    requires { ⌜ Taken shape × (cycle ≡ cycleAt shape 0) ⌝ }
+    requires { ⌜ (length (now cells) ≡ cellCount shape) × (length (now counters) ≡ shape .rows) × (length (now flags) ≡ shape .rows) × (length (now matches) ≡ shape .rows) ⌝ }
+    ensures run { λ r. ⌜ stateOf (now (cells .entry)) (now (counters .exit)) (now (flags .exit)) r ≡ runFrom shape (stateOf (now (cells .entry)) (now (counters .entry)) (now (flags .entry)) cycle) (replicate (lookups shape) (step (now (matches .entry)))) ⌝ }
+    ensures matched { λ r. ⌜ now (matches .exit) ≡ matchBytes shape (testVector shape (entryAt shape (lookups shape - 1))) (now (cells .entry)) ⌝ }
+{
     let mut now = cycle;
     while now.is_open() {
         let stepped = now.step(shape, cells, counters, flags, matches);
@@ -137,16 +164,9 @@ impl Cycle {
         ensures counted { λ r. ⌜ now (counters .exit) ≡ clearCall shape (stateOf (now (cells .entry)) (now (counters .entry)) (now (flags .entry)) self) .state .counters ⌝ }
         ensures flagged { λ r. ⌜ now (flags .exit) ≡ clearCall shape (stateOf (now (cells .entry)) (now (counters .entry)) (now (flags .entry)) self) .state .flags ⌝ }
     {
-        match check_cells(shape, cells.len()) {
+        match check_lent(shape, cells.len(), counters.len(), flags.len()) {
             Checked::Refused(number) => refused(self, number),
             Checked::Taken(_) => {
-                let rows = shape.rows;
-                if counters.len() != rows {
-                    return refused(self, 6);
-                }
-                if flags.len() != rows {
-                    return refused(self, 6);
-                }
                 fill(cells, 0);
                 fill(counters, 0);
                 fill(flags, 0);
@@ -207,25 +227,21 @@ impl Cycle {
         ensures counted { λ r. ⌜ now (counters .exit) ≡ stepCall shape (stateOf (now (cells .entry)) (now (counters .entry)) (now (flags .entry)) self) (now (matches .entry)) .state .counters ⌝ }
         ensures flagged { λ r. ⌜ now (flags .exit) ≡ stepCall shape (stateOf (now (cells .entry)) (now (counters .entry)) (now (flags .entry)) self) (now (matches .entry)) .state .flags ⌝ }
     {
-        match check_cells(shape, cells.len()) {
+        match check_lent(shape, cells.len(), counters.len(), flags.len()) {
             Checked::Refused(number) => refused(self, number),
             Checked::Taken(sizes) => {
                 let rows = shape.rows;
                 let count = sizes.columns;
                 let checks = sizes.checks;
-                if counters.len() != rows {
-                    return refused(self, 6);
-                }
-                if flags.len() != rows {
-                    return refused(self, 6);
-                }
                 if matches.len() != rows {
                     return refused(self, 6);
                 }
                 let columns = columns_of(shape, checks);
-                match locate(self, shape, sizes, &columns[..count]) {
+                let part = &columns[..count];
+                match locate(self, shape, sizes, part) {
                     Located::Elsewhere => refused(self, 9),
                     Located::At(standing) => {
+                        let next = self.advance(shape, sizes, part, standing);
                         look_and_count(
                             self,
                             shape,
@@ -236,7 +252,7 @@ impl Cycle {
                             flags,
                             matches,
                         );
-                        done(self.advance(shape, sizes, &columns[..count], standing))
+                        done(next)
                     }
                 }
             }
@@ -257,16 +273,10 @@ impl Cycle {
         ensures counted { λ r. ⌜ now (counters .exit) ≡ cycleCall shape (stateOf (now (cells .entry)) (now (counters .entry)) (now (flags .entry)) self) (now (matches .entry)) .state .counters ⌝ }
         ensures flagged { λ r. ⌜ now (flags .exit) ≡ cycleCall shape (stateOf (now (cells .entry)) (now (counters .entry)) (now (flags .entry)) self) (now (matches .entry)) .state .flags ⌝ }
     {
-        match check_cells(shape, cells.len()) {
+        match check_lent(shape, cells.len(), counters.len(), flags.len()) {
             Checked::Refused(number) => refused(self, number),
             Checked::Taken(_) => {
                 let rows = shape.rows;
-                if counters.len() != rows {
-                    return refused(self, 6);
-                }
-                if flags.len() != rows {
-                    return refused(self, 6);
-                }
                 if matches.len() != rows {
                     return refused(self, 6);
                 }

@@ -1,6 +1,5 @@
 // The record of a detection cycle.
 use limits::answer::Outcome;
-
 ghost use mathlib.Core.Path.{_≡_};
 ghost use Rattle.scrub.specs.Record.{idle, openRecord, completeAt, isOpen};
 

@@ -1,11 +1,11 @@
 // The place of a lookup in the schedule: whether a record stands at the place of its count, and the record
 // that comes next.
 use super::cycle::Cycle;
+use acam::matrix::ones;
+use acam::matrix::power_of_two;
 use limits::byte::wide;
-use acam::matrix::{ones, power_of_two};
 use limits::shape::Sizes;
 use parity::Shape;
-
 ghost use mathlib.Core.Path.{_≡_};
 ghost use mathlib.Core.Bool.{Bool, true, not, cond, _&&_};
 ghost use Prim.Native.Nat.{ℕ, suc, _+_, _-_, _*_, _/_, _%_, _^_, _≤_, _<_};
@@ -111,7 +111,10 @@ fn index_of(levels: usize, radix: usize, factor: usize, span: usize, survey: Sur
 {
     let next = span / radix;
     let last = factor - 1;
-    (levels - 1) * survey.before + survey.size * (next - 1) + survey.rank * (span - next) + (last - last / radix)
+    (levels - 1) * survey.before
+        + survey.size * (next - 1)
+        + survey.rank * (span - next)
+        + (last - last / radix)
 }
 
 // Whether a record stands at the place of its count, with that lookup still to come, and where.
@@ -181,7 +184,13 @@ impl Cycle {
     }
 
     // The record after the lookup that it stands at.
-    pub(crate) fn advance(mut self, shape: Shape, sizes: Sizes, columns: &[u8], standing: Standing) -> Self
+    pub(crate) fn advance(
+        mut self,
+        shape: Shape,
+        sizes: Sizes,
+        columns: &[u8],
+        standing: Standing,
+    ) -> Self
         requires { ⌜ Taken shape × (sizes ≡ sizesOf shape) × (now columns ≡ matrix shape) ⌝ }
         requires { ⌜ (isNext shape self ≡ true) × (standing ≡ standingOf shape self) ⌝ }
         ensures { λ r. ⌜ r ≡ cycleAt shape (suc (self .count)) ⌝ }

@@ -252,7 +252,7 @@ index-of-requires c κs =
       (p .low, omega (arith, p .high)),
       (omega (arith, span-high (shape s) (taken s) d), omega arith),
       survey-high (matrix (shape s)) (cycle s .row) (cycle s .column) (survey c) (omega (arith, columns-high (shape s) (taken s)))
-      (row-high (ranged (held x))),
+          (row-high (ranged (held x))),
     )
 
 returns-8 : tie.Need-returns-8

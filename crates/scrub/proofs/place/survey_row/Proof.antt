@@ -142,9 +142,9 @@ loop-again c =
       ap₂ _+_ (turn .inv .1) low ∙ sym (before-rows-next cs ℓ j (omega arith)) ∙ ap (λ n. sumTo ℓ (λ l. onesBefore cs l n)) (sym next),
       ap₂ _+_ (turn .inv .2) one ∙ sym (before-next cs ℓ j (omega arith)) ∙ ap (onesBefore cs ℓ) (sym next),
       ⊎-elim
-      (λ w. w .1 ∙ ap₂ _+_ (turn .inv .3) one ∙ sym (part-next cs ℓ j (args .column) (omega arith) (w .0 .taken)) ∙ ap (onesBefore (take (args .column) cs) ℓ) (sym next))
-      (λ w. w .1 ∙ turn .inv .3 ∙ sym (part-past cs ℓ j (args .column) (w .0 .left)) ∙ ap (onesBefore (take (args .column) cs) ℓ) (sym next))
-      (c .if1 .came),
+          (λ w. w .1 ∙ ap₂ _+_ (turn .inv .3) one ∙ sym (part-next cs ℓ j (args .column) (omega arith) (w .0 .taken)) ∙ ap (onesBefore (take (args .column) cs) ℓ) (sym next))
+          (λ w. w .1 ∙ turn .inv .3 ∙ sym (part-past cs ℓ j (args .column) (w .0 .left)) ∙ ap (onesBefore (take (args .column) cs) ℓ) (sym next))
+          (c .if1 .came),
     )
 
 returns : tie.Need-returns Inv-loop μ-loop
