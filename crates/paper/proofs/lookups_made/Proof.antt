@@ -1,0 +1,54 @@
+-- `paper::lookups_made` meets its contract: as many cells are lent as there are columns. Assumes nothing.
+use mathlib.Core.Path.{sym}
+use mathlib.Core.List.{List}
+use Prim.Native.Nat.{ℕ}
+use native.Mathlib.Omega.{arith}
+use lib.ListN.{replicate}
+use lib.Seq.{length-take-le}
+use borrow.Author.Needs.{needs}
+use Rattle.paper.proofs.lookups_made.Statement.{statement}
+use Rattle.paper.proofs.lookups_made.Tie as tie
+use Rattle.paper.proofs.lookups_made.Reads as reads
+use Rattle.paper.proofs.lookups_made.Lts as lts
+use Rattle.scrub.proofs.cycle.Cycle.run.Reads as run-reads
+
+-- the cells
+abbrev zeros : List ℕ
+zeros = replicate 64 0
+
+returns : tie.Need-returns
+returns c = search needs
+
+array-share-prefix-cells : tie.Need-array-share-prefix-cells
+array-share-prefix-cells c = search needs
+
+slice-aggregate-run : tie.Need-slice-aggregate-run
+slice-aggregate-run c = sym (length-take-le (c .before .before .args .columns) zeros (omega arith))
+
+slice-aggregate-run-2 : tie.Need-slice-aggregate-run-2
+slice-aggregate-run-2 c = search needs
+
+slice-aggregate-run-3 : tie.Need-slice-aggregate-run-3
+slice-aggregate-run-3 c = search needs
+
+slice-aggregate-run-4 : tie.Need-slice-aggregate-run-4
+slice-aggregate-run-4 c = search needs
+
+run-requires : tie.Need-run-requires
+run-requires c κs = search needs
+
+returns-2 : tie.Need-returns-2
+returns-2 c = search needs
+
+pub lookups-made-spec : {M : Type 1} → statement M
+lookups-made-spec =
+    tie.close
+    (tie.spec
+    returns
+    array-share-prefix-cells
+    slice-aggregate-run
+    slice-aggregate-run-2
+    slice-aggregate-run-3
+    slice-aggregate-run-4
+    run-requires
+    returns-2)
