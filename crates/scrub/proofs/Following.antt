@@ -118,6 +118,11 @@ module _ (s : Shape) (t : Taken s) where
         place-record s t (cycle .row) (cycle .digit) (cycle .column) (nextFactor ρ a) (suc (cycle .count)) next
         (omega (arith, next-place s t cycle e .1)) .1
 
+    column-after : rank s (cycle .row) (suc (cycle .column)) ≡ suc (rank s (cycle .row) (cycle .column))
+    unfolding rank
+    column-after =
+        omega (arith, before-next (matrix s) (cycle .row) (cycle .column) (omega (arith, matrixClaim s t .sized, place .column)), place .held)
+
     module _ (past : span s (cycle .digit) ≤ nextFactor (s .radix) (cycle .factor)) where
       column-done : suc (cycle .count) ≡ columnStart s (cycle .row) (cycle .digit) (suc (rank s (cycle .row) (cycle .column)))
       unfolding placeIndex
@@ -132,11 +137,6 @@ module _ (s : Shape) (t : Taken s) where
           let all : suc (factorRank (s .radix) a) ≡ length (factors s d) =
           eqb-true _ _ (factor-last s two d (place .digit) a factor ∙ eq-eqb (suc a) (span s d) top) in
           omega (arith, next-place s t cycle e .1, span-step s two d (place .digit))
-
-      column-after : rank s (cycle .row) (suc (cycle .column)) ≡ suc (rank s (cycle .row) (cycle .column))
-      unfolding rank
-      column-after =
-          omega (arith, before-next (matrix s) (cycle .row) (cycle .column) (omega (arith, matrixClaim s t .sized, place .column)), place .held)
 
       pub follow-column :
           suc (rank s (cycle .row) (cycle .column)) < rowSize s (cycle .row)

@@ -4,29 +4,25 @@ use mathlib.Core.Path.{_≡_, refl, sym, ap, _∙_}
 use mathlib.Core.List.{List}
 use Prim.Native.Nat.{ℕ, zero, suc, _<_}
 use native.Mathlib.Omega.{arith}
+use borrow.Author.Tests.{ne-eqb}
 use Rattle.limits.specs.Answers.{outcome}
-use Rattle.limits.specs.declared.answer.Outcome.the-variants.{Done, Refused}
+use Rattle.limits.specs.declared.answer.Outcome.the-variants.{Refused}
 use Rattle.array.specs.Arrays.{ifTaken}
-use Rattle.array.proofs.Asked.{kept}
 use Rattle.scrub.specs.Calls.{State}
 use Rattle.scrub.specs.Methods.{refusedWith, doneWith}
 use Rattle.scrub.specs.declared.cycle.Changed.{Changed}
 
 -- a no leaves what there was, and is answered with its number
+outcome-refused : (n : ℕ) → 0 < n → outcome n ≡ Refused n
+outcome-refused zero h = absurd (omega arith)
+outcome-refused (suc m) h = refl
+
 module _ (refusal n : ℕ) (fails : (refusal ≡ n) × (0 < n)) where
   pub keeps : {A : Type 0} (new old : A) → old ≡ ifTaken refusal new old
-  keeps new old = rw (fails .0) (go n (fails .1))
-    where
-      go : (n : ℕ) → 0 < n → old ≡ ifTaken n new old
-      go zero h = absurd (omega arith)
-      go (suc m) h = kept new old m
+  keeps new old = rw (fails .0) (simp (ne-eqb n 0 (λ e. omega arith)))
 
   pub refuses : Refused n ≡ outcome refusal
-  refuses = rw (fails .0) (go n (fails .1))
-    where
-      go : (n : ℕ) → 0 < n → Refused n ≡ outcome n
-      go zero h = absurd (omega arith)
-      go (suc m) h = refl
+  refuses = rw (fails .0) (sym (outcome-refused n (fails .1)))
 
 -- where there is none, what is new is left
 pub makes : (refusal : ℕ) → refusal ≡ 0 → {A : Type 0} (new old : A) → new ≡ ifTaken refusal new old
@@ -40,7 +36,9 @@ pub record Gives (refusal : ℕ) (new old : State) (r : Changed) (left : State) 
   pub flags : left .flags ≡ ifTaken refusal new old .flags
 
 module _ (refusal : ℕ) (new old : State) (r : Changed) where
-  gives : (left : State) → r ≡ record { outcome = outcome refusal; cycle = left .cycle } → left ≡ ifTaken refusal new old → Gives refusal new old r left
+  gives :
+      (left : State) → r ≡ record { outcome = outcome refusal; cycle = left .cycle } → left ≡ ifTaken refusal new old
+      → Gives refusal new old r left
   gives left e same =
       record {
         answered = e ∙ ap (λ x. record { outcome = outcome refusal; cycle = x .cycle }) same;

@@ -34,15 +34,15 @@ abbrev pub checkedLent : Shape → State → Checked
 checkedLent s st = checkedBy (firstNo (lentQuestions s st)) (sizesOf s)
 
 -- of what is taken: the shape with its sizes, and buffers of their lengths
-pub record Passed (s : Shape) (st : State) (z : Sizes) : Type 0 where
+pub record LentPassed (s : Shape) (st : State) (z : Sizes) : Type 0 where
   pub taken : Taken s
   pub sizes : z ≡ sizesOf s
   pub sized : Sized s st
   pub none : firstNo (lentQuestions s st) ≡ 0
 
-pub passed : (s : Shape) (st : State) (sizes : Sizes) → checkedLent s st ≡ checked.Taken sizes → Passed s st sizes
+pub lent-passed : (s : Shape) (st : State) (sizes : Sizes) → checkedLent s st ≡ checked.Taken sizes → LentPassed s st sizes
 unfolding shapeRefusal
-passed s st sizes e =
+lent-passed s st sizes e =
     let by = passed-by (firstNo (lentQuestions s st)) (sizesOf s) sizes e in
     let parts = first-none (shapeQuestions s) (lengthQuestions s st) refl (by .0) in
     let cells = first-yes _ _ 6 (lit< tt) (parts .1) in
@@ -61,14 +61,14 @@ passed s st sizes e =
     }
 
 -- the first no to the whole call is then that of its other questions ..
-pub passed-rest :
-    {s : Shape} {st : State} {sizes : Sizes} → Passed s st sizes → (more : List Question) → firstNo (lentQuestions s st ++ more) ≡ firstNo more
-passed-rest {s} {st} p more = first-rest (lentQuestions s st) more refl (p .none)
+pub lent-rest :
+    {s : Shape} {st : State} {sizes : Sizes} → LentPassed s st sizes → (more : List Question) → firstNo (lentQuestions s st ++ more) ≡ firstNo more
+lent-rest {s} {st} p more = first-rest (lentQuestions s st) more refl (p .none)
 
 -- .. and otherwise that of the buffers
-pub refused-rest :
+pub lent-refused :
     (s : Shape) (st : State) (n : ℕ) → checkedLent s st ≡ checked.Refused n → (more : List Question)
     → (firstNo (lentQuestions s st ++ more) ≡ n) × (0 < n)
-refused-rest s st n e more =
+lent-refused s st n e more =
     let fails = refused-by (firstNo (lentQuestions s st)) (sizesOf s) n e in
     (first-found (lentQuestions s st) more n (fails .1) (fails .0), fails .1)

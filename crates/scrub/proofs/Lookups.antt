@@ -32,7 +32,7 @@ sum-ones (c ∷ cs) h = omega (arith, h 0 (zero-lt-suc (length cs)), sum-ones cs
 sum-take : (k : ℕ) (cs : List ℕ) → sumOver (take k cs) weight ≤ sumOver cs weight
 sum-take k cs = omega (arith, sum-append weight (take k cs) (drop k cs), ap (λ ds. sumOver ds weight) (take-append-drop k cs))
 
--- the ones of all the columns that can stand beside r check columns, and of those, computed for τ = 2 and 3
+-- all the columns that can be rule columns beside r check columns have, with those, at most 1,024 ones: computed for τ = t + 1 = 2 and 3
 onesTest : List ℕ → ℕ → ℕ → Bool
 onesTest order t r = leb (sumOver (keep (eligible (suc t) r) order) weight + r) 1024
 
@@ -58,9 +58,12 @@ matrixOnes-high : (s : Shape) → Taken s → matrixOnes s ≤ 1024
 unfolding matrix
 matrixOnes-high s t =
     let claim = redundancyClaim s t in
+    let sized = matrixClaim s t .sized in
+    let one : s .errors ≡ 1 → Each (λ c. weight c ≡ 1) (matrix s) =
+    λ e j l. ap weight (matrixClaim s t .ones e j (omega arith)) ∙ power-weight 0 (omega arith) in
     rw (matrixOnes-weights s t)
     (⊎-elim
-    (λ e. omega (arith, sum-ones (matrix s) (λ j l. ap weight (matrixClaim s t .ones e j (omega (arith, matrixClaim s t .sized))) ∙ power-weight 0 (omega arith)), matrixClaim s t .sized, columns-high s t))
+    (λ e. omega (arith, sum-ones (matrix s) (one e), columns-high s t))
     (λ h.
     omega (
       arith,

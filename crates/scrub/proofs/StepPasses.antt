@@ -4,10 +4,9 @@ use mathlib.Core.Path.{_≡_, refl, sym, subst, ap, _∙_}
 use mathlib.Core.Bool.{Bool, true, false, cond, not, _&&_}
 use mathlib.Core.List.{List}
 use Prim.Native.Nat.{ℕ, suc, _+_, _*_, _%_, _^_, _≤_, _<_}
-use native.Mathlib.Nat.{mul-le-mul-right}
 use native.Mathlib.Omega.{arith}
 use lib.Dec.{eqb, leb}
-use lib.ListN.{length, getD, drop, replicate, length-take, length-drop}
+use lib.ListN.{length, getD, replicate}
 use lib.Seq.{ext-getD, getD-take, getD-drop}
 use Rattle.parity.specs.Lists.{tabulate}
 use Rattle.parity.specs.Match.{allAnswer, matchByte}
@@ -24,6 +23,7 @@ use Rattle.schedule.proofs.Length.{lengthClaim}
 use Rattle.schedule.proofs.Lookup.{match-unit}
 use Rattle.schedule.proofs.Ranks.{stands-support}
 use Rattle.array.specs.Arrays.{cellCount, rowAt, matchBytes}
+use Rattle.array.proofs.RowPlaces.{row-sized}
 use Rattle.scrub.specs.Record.{entryAt, isNext}
 use Rattle.scrub.specs.Calls.{State, countedRows, flaggedRows, resetRows, stepMatches, stepped}
 use Rattle.scrub.specs.Places.{standingOf}
@@ -80,11 +80,6 @@ match-low vector row = low (allAnswer vector row)
 row-cell : (s : Shape) (cells : List ℕ) (i j : ℕ) → j < columns s → getD (rowAt s cells i) j 0 ≡ getD cells (i * columns s + j) 0
 unfolding rowAt
 row-cell s cells i j h = rw (getD-take, getD-drop)
-
-row-sized : (s : Shape) (cells : List ℕ) (i : ℕ) → length cells ≡ cellCount s → i < s .rows → length (rowAt s cells i) ≡ columns s
-unfolding rowAt cellCount
-row-sized s cells i sized h =
-    omega (arith, length-take (columns s) (drop (i * columns s) cells), length-drop (i * columns s) cells, mul-le-mul-right (columns s) h)
 
 module _ (s : Shape) (st : State) where
   -- a step's match bytes, each from one cell

@@ -13,7 +13,7 @@ use Rattle.parity.specs.Matrix.{lookups}
 use Rattle.parity.specs.Questions.{Taken}
 use Rattle.parity.specs.declared.Shape.{Shape}
 use Rattle.parity.proofs.ListLaws.{length-tabulate}
-use Rattle.schedule.specs.Schedule.{testVector, schedule}
+use Rattle.schedule.specs.Schedule.{testVector}
 use Rattle.schedule.proofs.Length.{lengthClaim}
 use Rattle.array.specs.Arrays.{matchBytes}
 use Rattle.scrub.specs.Record.{entryAt, openAt, completeAt, cycleAt, isOpen, isNext}
@@ -70,13 +70,14 @@ module _ (s : Shape) (t : Taken s) (first : State) (given : List ℕ) (l : lengt
       (record { sized = z; buffer = l; high = omega arith; cycle = e; rest = rw sub-zero refl; made = λ h. absurd (omega arith) })
 
   module _ (c : ℕ) (st : State) (matches : List ℕ) (g : Going s first given c st matches) where
+    going-phase : isOpen (st .cycle .phase) ≡ ltb c (lookups s)
+    going-phase = ap (λ r. isOpen (r .phase)) (g .cycle) ∙ open-below s t c
+
     going-open : isOpen (st .cycle .phase) ≡ true → c < lookups s
-    going-open e = ltb-true c (lookups s) (sym (open-below s t c) ∙ ap (λ r. isOpen (r .phase)) (sym (g .cycle)) ∙ e)
+    going-open e = ltb-true c (lookups s) (sym going-phase ∙ e)
 
     going-ended : isOpen (st .cycle .phase) ≡ false → c ≡ lookups s
-    going-ended e =
-        let low : lookups s ≤ c = ltb-false c (lookups s) (sym (open-below s t c) ∙ ap (λ r. isOpen (r .phase)) (sym (g .cycle)) ∙ e) in
-        omega (arith, g .high)
+    going-ended e = omega (arith, ltb-false c (lookups s) (sym going-phase ∙ e), g .high)
 
     -- a step while the record is open
     step-none : c < lookups s → (buffer : List ℕ) → length buffer ≡ s .rows → stepRefusal s st buffer ≡ 0

@@ -1,9 +1,8 @@
 -- `scrub::calls::check_lent` meets its contract: questions 1 to 5 and 6 on the cells by `check_cells`, and then 6 on counters and flags.
 -- Assumes nothing.
-use mathlib.Core.Path.{_≡_, refl, sym, _∙_, ap}
+use mathlib.Core.Path.{refl, sym, _∙_, ap}
 use mathlib.Core.List.{List, [], _∷_}
 use Prim.Native.Nat.{ℕ}
-use native.Mathlib.Omega.{arith}
 use borrow.Author.Needs.{needs}
 use borrow.Author.Tests.{eq-eqb, ne-eqb}
 use Rattle.parity.specs.Questions.{Question, lengthQuestion}

@@ -1,15 +1,11 @@
 -- `scrub::calls::run_open` meets its contract: the loop's state is one of the cycle's (WholeCycle.antt). The measure is the lookups to come.
 -- Assumes nothing.
-use mathlib.Core.Path.{_≡_, sym, _∙_, ap}
-use mathlib.Core.List.{List}
-use Prim.Native.Nat.{ℕ, suc, _-_, _<_}
+use mathlib.Core.Path.{_≡_, sym, _∙_}
+use Prim.Native.Nat.{suc, _-_, _<_}
 use native.Mathlib.Omega.{arith}
 use borrow.Author.Needs.{needs}
 use Rattle.parity.specs.Matrix.{lookups}
-use Rattle.parity.specs.declared.Shape.{Shape}
-use Rattle.scrub.specs.Calls.{State}
 use Rattle.scrub.specs.Methods.{stateOf}
-use Rattle.scrub.specs.declared.cycle.Cycle.{Cycle}
 use Rattle.scrub.proofs.WholeCycle.{Going, going-start, going-step, going-end}
 use Rattle.scrub.proofs.calls.run_open.Statement.{statement}
 use Rattle.scrub.proofs.calls.run_open.Tie as tie

@@ -37,13 +37,14 @@ use Rattle.scrub.proofs.place.locate.Tie as tie
 
 -- the index of a place as the code computes it
 index-as :
-    (s : Shape) (ℓ d j a : ℕ) {q m : ℕ} {v : Survey} → q ≡ levels s → m ≡ span s d → v ≡ surveyOf (matrix s) ℓ j
-    → (q - 1) * v .before + v .size * (m / s .radix - 1) + v .rank * (m - m / s .radix) + (a - 1 - (a - 1) / s .radix) ≡ placeIndex s ℓ d j a
+    (s : Shape) (ℓ d j a r : ℕ) {q m : ℕ} {v : Survey}
+    → r ≡ (q - 1) * v .before + v .size * (m / s .radix - 1) + v .rank * (m - m / s .radix) + (a - 1 - (a - 1) / s .radix)
+    → q ≡ levels s → m ≡ span s d → v ≡ surveyOf (matrix s) ℓ j → r ≡ placeIndex s ℓ d j a
 unfolding placeIndex rowSize rank support
-index-as s ℓ d j a {q} {m} {v} eq em ev =
+index-as s ℓ d j a r {q} {m} {v} result eq em ev =
     let next : m / s .radix ≡ span s (suc d) = ap (λ x. x / s .radix) em ∙ span-next s d in
-    λ i.
-    (eq i - 1) * ev i .before + ev i .size * (next i - 1) + ev i .rank * (em i - next i) + (a - 1 - (a - 1) / s .radix)
+    result
+    ∙ (λ i. (eq i - 1) * ev i .before + ev i .size * (next i - 1) + ev i .rank * (em i - next i) + (a - 1 - (a - 1) / s .radix))
 
 -- no number of a survey is above 255 for each check row
 survey-high :
@@ -60,15 +61,16 @@ survey-high cs ℓ j e fits rows =
       length-take j cs,
     )
 
--- the test of a factor passes exactly where a place can have it
-factor-passed : (a m ρ : ℕ) → leb 1 a && ltb a m && not (eqb (a % ρ) 0) ≡ true → (1 ≤ a) × (a < m) × (a % ρ ≢ 0)
-factor-passed a m ρ e =
-    let both = and-eq-true-iff _ (not (eqb (a % ρ) 0)) .0 e in
+-- the test of a factor, passed and failed
+factor-passed : (a m ρ : ℕ) {b : Bool} → b ≡ leb 1 a && ltb a m && not (eqb (a % ρ) 0) → b ≡ true → (1 ≤ a) × (a < m) × (a % ρ ≢ 0)
+factor-passed a m ρ e passed =
+    let both = and-eq-true-iff _ (not (eqb (a % ρ) 0)) .0 (sym e ∙ passed) in
     let range = and-eq-true-iff (leb 1 a) (ltb a m) .0 (both .0) in
     (leb-true 1 a (range .0), ltb-true a m (range .1), eqb-false (a % ρ) 0 (not-true _ (both .1)))
 
-factor-passes : (a m ρ : ℕ) → 1 ≤ a → a < m → a % ρ ≢ 0 → leb 1 a && ltb a m && not (eqb (a % ρ) 0) ≡ true
-factor-passes a m ρ low high apart = simp (le-leb 1 a low, lt-ltb a m high, ne-eqb (a % ρ) 0 apart)
+factor-failed : (a m ρ : ℕ) {b : Bool} → b ≡ leb 1 a && ltb a m && not (eqb (a % ρ) 0) → b ≡ false → 1 ≤ a → a < m → a % ρ ≢ 0 → ⊥
+factor-failed a m ρ e failed low high apart =
+    false≢true (sym failed ∙ e ∙ simp (le-leb 1 a low, lt-ltb a m high, ne-eqb (a % ρ) 0 apart))
 
 module _ (c : tie.Start) where
   abbrev shape : Shape
@@ -146,7 +148,7 @@ own-span c = let s = counted (ranged (c .before)) in c .span-of .ensures ∙ ap 
 placed : (c : tie.Else7) → let s = counted (ranged (held c)) in Place (shape s) (cycle s .row) (cycle s .digit) (cycle s .column) (cycle s .factor)
 placed c =
     let s = counted (ranged (held c)) in
-    let factor = factor-passed (cycle s .factor) _ (shape s .radix) (sym (c .before .is-factor .ensures) ∙ not-false _ (c .if7 .left)) in
+    let factor = factor-passed (cycle s .factor) _ (shape s .radix) (c .before .is-factor .ensures) (not-false _ (c .if7 .left)) in
     record {
       row = omega (arith, ranged (held c) .before .before .before .if3 .left, all-checks s);
       digit = ranged (held c) .before .if4 .left;
@@ -170,8 +172,7 @@ index :
     c .index-of .result ≡ placeIndex (shape s) (cycle s .row) (cycle s .digit) (cycle s .column) (cycle s .factor)
 index c =
     let s = counted (ranged (held (c .before .before))) in
-    c .index-of .ensures
-    ∙ index-as (shape s) (cycle s .row) (cycle s .digit) (cycle s .column) (cycle s .factor) (all-levels s)
+    index-as (shape s) (cycle s .row) (cycle s .digit) (cycle s .column) (cycle s .factor) (c .index-of .result) (c .index-of .ensures) (all-levels s)
     (own-span (c .before .before .before .before)) (survey (c .before))
 
 is-open-requires : tie.Need-is-open-requires
@@ -228,9 +229,8 @@ returns-7 c =
     let s = counted (ranged (c .before .before .before)) in
     misplaced s
     (λ at.
-    false≢true
-    (sym (not-true _ (c .if7 .taken)) ∙ c .before .is-factor .ensures
-    ∙ factor-passes (cycle s .factor) _ (shape s .radix) (at .0 .low) (omega (arith, at .0 .high, own-span (c .before .before))) (at .0 .undivided)))
+    factor-failed (cycle s .factor) _ (shape s .radix) (c .before .is-factor .ensures) (not-true _ (c .if7 .taken)) (at .0 .low)
+    (omega (arith, at .0 .high, own-span (c .before .before))) (at .0 .undivided))
 
 survey-row-requires : tie.Need-survey-row-requires
 survey-row-requires c κs =

@@ -1,24 +1,15 @@
--- `scrub::cycle::Cycle::clear` meets its contract. Assumes nothing.
-use mathlib.Core.Path.{_≡_, sym, _∙_, ap}
+-- `scrub::cycle::Cycle::clear` meets its contract: where `check_lent` takes the buffers, each is filled to its length. Assumes nothing.
+use mathlib.Core.Path.{sym, _∙_, ap}
 use mathlib.Core.List.{[]}
-use Prim.Native.Nat.{ℕ, _<_}
-use native.Mathlib.Omega.{arith}
 use lib.ListN.{replicate}
 use borrow.Author.Needs.{needs}
-use Rattle.parity.specs.declared.Shape.{Shape}
 use Rattle.scrub.specs.Record.{idle}
 use Rattle.scrub.specs.Calls.{State, clearRefusal, fresh, clearCall}
 use Rattle.scrub.specs.Methods.{stateOf}
-use Rattle.scrub.proofs.Lent.{Passed, passed, refused-rest}
+use Rattle.scrub.proofs.Lent.{LentPassed, lent-passed, lent-refused}
 use Rattle.scrub.proofs.Given.{refused-gives, done-gives}
 use Rattle.scrub.proofs.cycle.Cycle.clear.Statement.{statement}
 use Rattle.scrub.proofs.cycle.Cycle.clear.Tie as tie
-use Rattle.scrub.proofs.cycle.Cycle.clear.Reads as reads
-use Rattle.scrub.proofs.cycle.Cycle.clear.Lts as lts
-use Rattle.limits.proofs.byte.fill.Reads as fill-reads
-use Rattle.scrub.proofs.calls.check_lent.Reads as check-lent-reads
-use Rattle.scrub.proofs.calls.done.Reads as done-reads
-use Rattle.scrub.proofs.calls.refused.Reads as refused-reads
 
 -- the state that the call is given
 abbrev entry : tie.Start → State
@@ -27,8 +18,8 @@ entry c = stateOf (c .args .cells .now) (c .args .counters .now) (c .args .flags
 buffers-taken :
     (c : tie.After-enum-told)
     → let start = c .before .before .before .before .before .before in
-    Passed (start .args .shape) (entry start) (c .enum-told .given .0 .0)
-buffers-taken c = passed _ _ _ (sym (c .before .before .check-lent .ensures) ∙ c .enum-told .given .1)
+    LentPassed (start .args .shape) (entry start) (c .enum-told .given .0 .0)
+buffers-taken c = lent-passed _ _ _ (sym (c .before .before .check-lent .ensures) ∙ c .enum-told .given .1)
 
 check-lent-requires : tie.Need-check-lent-requires
 check-lent-requires c κs = search needs
@@ -60,7 +51,7 @@ returns c =
     let start = c .before .before .before .before .before .before .before .before in
     let s = start .args .shape in
     let number = c .before .before .number .given in
-    let fails = refused-rest s (entry start) (number .0 .0) (sym (c .before .before .before .before .check-lent .ensures) ∙ number .1) [] in
+    let fails = lent-refused s (entry start) (number .0 .0) (sym (c .before .before .before .before .check-lent .ensures) ∙ number .1) [] in
     let gives = refused-gives _ (fresh s) (entry start) _ (number .0 .0) fails (c .refused .ensures) in
     (gives .answered, (gives .cells, (gives .counters, gives .flags)))
 

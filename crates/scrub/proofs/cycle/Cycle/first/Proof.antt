@@ -1,14 +1,24 @@
 -- `scrub::cycle::Cycle::first` meets its contract: the first lookup is that of check row 0 and the highest digit in the first column of J(0).
 -- Assumes nothing.
-use mathlib.Core.Path.{sym, _∙_, ap}
-use Prim.Native.Nat.{_-_}
+use mathlib.Core.Path.{_≡_, sym, _∙_, ap}
+use mathlib.Core.List.{List}
+use Prim.Native.Nat.{ℕ, _-_}
 use borrow.Author.Needs.{needs}
+use Rattle.parity.specs.Matrix.{matrix}
+use Rattle.parity.specs.Questions.{Taken}
+use Rattle.parity.specs.declared.Shape.{Shape}
 use Rattle.parity.proofs.Taken.{limits}
-use Rattle.scrub.specs.Record.{openRecord}
+use Rattle.scrub.specs.Record.{openRecord, cycleAt}
+use Rattle.scrub.specs.declared.cycle.Cycle.{Cycle}
 use Rattle.scrub.proofs.Columns.{heldFrom}
 use Rattle.scrub.proofs.Following.{record-first}
 use Rattle.scrub.proofs.cycle.Cycle.first.Statement.{statement}
 use Rattle.scrub.proofs.cycle.Cycle.first.Tie as tie
+
+first-as :
+    (s : Shape) → Taken s → {r : Cycle} {j : ℕ} {cs : List ℕ}
+    → r ≡ openRecord 0 (s .digits - 1) j 1 0 → j ≡ heldFrom cs 0 0 → cs ≡ matrix s → r ≡ cycleAt s 0
+first-as s t e found all = e ∙ ap (λ j. openRecord 0 (s .digits - 1) j 1 0) (found ∙ ap (λ cs. heldFrom cs 0 0) all) ∙ sym (record-first s t)
 
 sub-open : tie.Need-sub-open
 sub-open c = limits (c .before .args .shape) (c .before .pre .0) .digitsLow
@@ -22,9 +32,7 @@ open-requires c κs = search needs
 returns : tie.Need-returns
 returns c =
     let start = c .before .before .before in
-    c .«open» .ensures
-    ∙ ap (λ j. openRecord 0 (start .args .shape .digits - 1) j 1 0) (c .before .next-held .ensures ∙ ap (λ cs. heldFrom cs 0 0) (start .pre .1))
-    ∙ sym (record-first (start .args .shape) (start .pre .0))
+    first-as (start .args .shape) (start .pre .0) (c .«open» .ensures) (c .before .next-held .ensures) (start .pre .1)
 
 pub first-spec : {M : Type 1} → statement M
 first-spec = tie.close (tie.spec sub-open next-held-requires open-requires returns)

@@ -14,13 +14,13 @@ use Rattle.scrub.proofs.cycle.Cycle.program.Statement.{statement}
 use Rattle.scrub.proofs.cycle.Cycle.program.Tie as tie
 
 -- the number that an outcome tells
-outcome-refused : (m n : ℕ) → outcome m ≡ Refused n → (m ≡ n) × (0 < n)
-outcome-refused zero n e = let never : _≡_ {A = ℕ} 0 1 = cc in absurd (omega arith)
-outcome-refused (suc m) n e = let same : suc m ≡ n = cc in (same, omega arith)
+refused-by : (m n : ℕ) → outcome m ≡ Refused n → (m ≡ n) × (0 < n)
+refused-by zero n e = let never : _≡_ {A = ℕ} 0 1 = cc in absurd (omega arith)
+refused-by (suc m) n e = let same : suc m ≡ n = cc in (same, omega arith)
 
-outcome-done : (m : ℕ) → outcome m ≡ Done → m ≡ 0
-outcome-done zero e = refl
-outcome-done (suc m) e = let never : _≡_ {A = ℕ} 0 1 = cc in absurd (omega arith)
+done-by : (m : ℕ) → outcome m ≡ Done → m ≡ 0
+done-by zero e = refl
+done-by (suc m) e = let never : _≡_ {A = ℕ} 0 1 = cc in absurd (omega arith)
 
 write-row-requires : tie.Need-write-row-requires
 write-row-requires c κs = search needs
@@ -47,8 +47,9 @@ returns c =
     let args = written .before .before .before .before .args in
     let refusal = programRefusal (args .shape) (args .cells .now) (args .row) (args .given .now) in
     let number = c .before .before .number .given in
-    let fails = outcome-refused refusal (number .0 .0) (sym (written .write-row .ensures .0) ∙ number .1) in (
-      c .refused .ensures ∙ (λ i. record { outcome = refuses refusal (number .0 .0) fails i; cycle = keeps refusal (number .0 .0) fails idle (args .self) i }),
+    let n = number .0 .0 in
+    let fails = refused-by refusal n (sym (written .write-row .ensures .0) ∙ number .1) in (
+      c .refused .ensures ∙ (λ i. record { outcome = refuses refusal n fails i; cycle = keeps refusal n fails idle (args .self) i }),
       written .write-row .ensures .1,
     )
 
@@ -61,7 +62,7 @@ returns-2 c =
     let written = c .before .before .before .before .before in
     let args = written .before .before .before .before .args in
     let refusal = programRefusal (args .shape) (args .cells .now) (args .row) (args .given .now) in
-    let none = outcome-done refusal (sym (written .write-row .ensures .0) ∙ c .before .enum-told .given .1) in (
+    let none = done-by refusal (sym (written .write-row .ensures .0) ∙ c .before .enum-told .given .1) in (
       c .done .ensures ∙ (λ i. record { outcome = outcome (sym none i); cycle = makes refusal none idle (args .self) i }),
       written .write-row .ensures .1,
     )

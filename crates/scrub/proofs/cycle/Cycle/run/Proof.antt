@@ -1,4 +1,5 @@
--- `scrub::cycle::Cycle::run` meets its contract: at each return the tests on the way say which question is the first no. Assumes nothing.
+-- `scrub::cycle::Cycle::run` meets its contract: at each return the tests on the way say which question is the first no; the start is taken,
+-- and `run_open` makes the steps. Assumes nothing.
 use mathlib.Core.Path.{_≡_, sym, _∙_, ap, subst}
 use mathlib.Core.List.{List, _∷_}
 use Prim.Native.Nat.{ℕ, _-_}
@@ -16,7 +17,7 @@ use Rattle.scrub.specs.Run.{start, step, runFrom}
 use Rattle.scrub.specs.Methods.{stateOf, cycleRefusal, cycleCall}
 use Rattle.scrub.specs.Claims.{Sized}
 use Rattle.scrub.proofs.Steps.{started-sized, start-state}
-use Rattle.scrub.proofs.Lent.{Passed, passed, passed-rest, refused-rest}
+use Rattle.scrub.proofs.Lent.{LentPassed, lent-passed, lent-rest, lent-refused}
 use Rattle.scrub.proofs.Given.{refused-ensured, done-ensured}
 use Rattle.scrub.proofs.WholeCycle.{start-made}
 use Rattle.scrub.proofs.cycle.Cycle.run.Statement.{statement}
@@ -36,8 +37,8 @@ ended s st matches = runFrom s st (start ∷ replicate (lookups s) (step matches
 buffers-taken :
     (c : tie.After-enum-told)
     → let entered = c .before .before .before .before .before .before .before in
-    Passed (entered .args .shape) (entry entered) (c .enum-told .given .0 .0)
-buffers-taken c = passed _ _ _ (sym (c .before .before .check-lent .ensures) ∙ c .enum-told .given .1)
+    LentPassed (entered .args .shape) (entry entered) (c .enum-told .given .0 .0)
+buffers-taken c = lent-passed _ _ _ (sym (c .before .before .check-lent .ensures) ∙ c .enum-told .given .1)
 
 -- the start is taken
 begun :
@@ -72,7 +73,7 @@ returns c =
     let s = entered .args .shape in
     let st = entry entered in
     let matches = entered .args .matches .now in
-    let no : cycleRefusal s st matches ≡ 6 = passed-rest (buffers-taken told) (stepArguments s matches)
+    let no : cycleRefusal s st matches ≡ 6 = lent-rest (buffers-taken told) (stepArguments s matches)
     ∙ simp (ne-eqb (length matches) (s .rows) (c .before .if1 .taken)) in
     refused-ensured _ (bytes s st) matches (ended s st matches) st _ 6 (no, lit< tt) (c .refused2 .ensures)
 
@@ -99,7 +100,8 @@ returns-2 c =
     let st = entry entered in
     let matches = entered .args .matches .now in
     let number = c .before .before .number .given in
-    let fails = refused-rest s st (number .0 .0) (sym (c .before .before .before .before .check-lent .ensures) ∙ number .1) (stepArguments s matches) in
+    let no = sym (c .before .before .before .before .check-lent .ensures) ∙ number .1 in
+    let fails = lent-refused s st (number .0 .0) no (stepArguments s matches) in
     refused-ensured _ (bytes s st) matches (ended s st matches) st _ (number .0 .0) fails (c .refused .ensures)
 
 same-length : tie.Need-same-length
@@ -122,7 +124,7 @@ returns-3 c =
     let st = entry entered in
     let matches = entered .args .matches .now in
     let p = buffers-taken told in
-    let none : cycleRefusal s st matches ≡ 0 = passed-rest p (stepArguments s matches)
+    let none : cycleRefusal s st matches ≡ 0 = lent-rest p (stepArguments s matches)
     ∙ simp (eq-eqb (length matches) (s .rows) (after .before .before .before .if1 .left)) in
     done-ensured _ (bytes s st) matches (ended s st matches) st _ _ _ none (c .done .ensures) (gone .run-open .ensures .1)
     (gone .run-open .ensures .0

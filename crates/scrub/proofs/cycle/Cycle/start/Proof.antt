@@ -1,7 +1,6 @@
 -- `scrub::cycle::Cycle::start` meets its contract: at each return the tests on the way say which question is the first no. Assumes nothing.
 use mathlib.Core.Path.{_≡_, sym, _∙_, ap}
 use mathlib.Core.List.{List, [], _∷_}
-use Prim.Native.Nat.{ℕ}
 use lib.Dec.{lit<}
 use lib.ListN.{length, replicate}
 use borrow.Author.Needs.{needs}
@@ -12,7 +11,7 @@ use Rattle.limits.proofs.Refusals.{Passed, passed, taken-rest, refused-rest}
 use Rattle.scrub.specs.Calls.{State, startRefusal, started, startCall}
 use Rattle.scrub.specs.Methods.{stateOf}
 use Rattle.scrub.proofs.Given.{refused-gives, done-gives}
-use Rattle.scrub.proofs.MatrixPart.{part-within, part-sized, part-matrix}
+use Rattle.scrub.proofs.MatrixPart.{Part, columns-part}
 use Rattle.scrub.proofs.cycle.Cycle.start.Statement.{statement}
 use Rattle.scrub.proofs.cycle.Cycle.start.Tie as tie
 
@@ -26,6 +25,14 @@ asked s st = lengthQuestion (length (st .counters)) (s .rows) ∷ lengthQuestion
 
 shape-taken : (c : tie.After-sizes) → Passed (c .before .before .before .before .before .args .shape) (c .sizes .given .0 .0)
 shape-taken c = passed _ _ (sym (c .before .before .check-shape .ensures) ∙ c .sizes .given .1)
+
+columns-lent :
+    (c : tie.After-columns-of)
+    → let sizes = c .before .before .before .before .before .before .before .before .before .before .before .before in
+    Part (sizes .before .before .before .before .before .args .shape) (sizes .sizes .given .0 .0 .columns) (c .columns-of .result)
+columns-lent c =
+    let p = shape-taken (c .before .before .before .before .before .before .before .before .before .before .before .before) in
+    columns-part _ _ _ (p .taken) (p .columns) (c .columns-of .ensures)
 
 check-shape-requires : tie.Need-check-shape-requires
 check-shape-requires c κs = search needs
@@ -49,7 +56,8 @@ returns c =
     let start = sizes .before .before .before .before .before in
     let s = start .args .shape in
     let st = entry start in
-    let no : startRefusal s st ≡ 6 = taken-rest s (shape-taken sizes .taken) (asked s st) ∙ simp (ne-eqb (length (st .counters)) (s .rows) (c .before .if1 .taken)) in
+    let no : startRefusal s st ≡ 6 = taken-rest s (shape-taken sizes .taken) (asked s st)
+    ∙ simp (ne-eqb (length (st .counters)) (s .rows) (c .before .if1 .taken)) in
     let gives = refused-gives _ (started s st) st _ 6 (no, lit< tt) (c .refused2 .ensures) in
     (gives .answered, (gives .counters, gives .flags))
 
@@ -80,19 +88,15 @@ columns-of-requires c κs =
     (p .taken, p .checks)
 
 array-share-prefix-columns : tie.Need-array-share-prefix-columns
-array-share-prefix-columns c =
-    let p = shape-taken (c .before .before .before .before .before .before .before .before .before .before .before .before) in
-    part-within _ (p .taken) _ _ (p .columns) (c .columns-of .ensures)
+array-share-prefix-columns c = columns-lent c .within
 
 slice-aggregate-first : tie.Need-slice-aggregate-first
-slice-aggregate-first c =
-    let p = shape-taken (c .before .before .before .before .before .before .before .before .before .before .before .before .before) in
-    part-sized _ (p .taken) _ _ (p .columns) (c .before .columns-of .ensures)
+slice-aggregate-first c = columns-lent (c .before) .sized
 
 first-requires : tie.Need-first-requires
 first-requires c κs =
     let p = shape-taken (c .before .before .before .before .before .before .before .before .before .before .before .before .before) in
-    (p .taken, part-matrix _ (p .taken) _ _ (p .columns) (c .before .columns-of .ensures))
+    (p .taken, columns-lent (c .before) .holds)
 
 done-requires : tie.Need-done-requires
 done-requires c κs = search needs

@@ -16,9 +16,9 @@ use Rattle.scrub.specs.Calls.{State, stepArguments, stepRefusal, stepMat
 use Rattle.scrub.specs.Methods.{stateOf}
 use Rattle.scrub.specs.declared.place.Standing.{Standing}
 use Rattle.scrub.specs.declared.place.Located.the-variants.{At, Elsewhere}
-use Rattle.scrub.proofs.Lent.{Passed, passed, passed-rest, refused-rest}
+use Rattle.scrub.proofs.Lent.{LentPassed, lent-passed, lent-rest, lent-refused}
 use Rattle.scrub.proofs.Given.{refused-ensured, done-ensured}
-use Rattle.scrub.proofs.MatrixPart.{part-within, part-sized, part-matrix}
+use Rattle.scrub.proofs.MatrixPart.{Part, columns-part}
 use Rattle.scrub.proofs.cycle.Cycle.step.Statement.{statement}
 use Rattle.scrub.proofs.cycle.Cycle.step.Tie as tie
 
@@ -42,8 +42,16 @@ missed false at e = refl
 buffers-taken :
     (c : tie.After-sizes)
     → let start = c .before .before .before .before .before .before .before in
-    Passed (start .args .shape) (entry start) (c .sizes .given .0 .0)
-buffers-taken c = passed _ _ _ (sym (c .before .before .check-lent .ensures) ∙ c .sizes .given .1)
+    LentPassed (start .args .shape) (entry start) (c .sizes .given .0 .0)
+buffers-taken c = lent-passed _ _ _ (sym (c .before .before .check-lent .ensures) ∙ c .sizes .given .1)
+
+columns-lent :
+    (c : tie.After-columns-of)
+    → let sizes = c .before .before .before in
+    Part (sizes .before .before .before .before .before .before .before .args .shape) (sizes .sizes .given .0 .0 .columns) (c .columns-of .result)
+columns-lent c =
+    let p = buffers-taken (c .before .before .before) in
+    columns-part _ _ _ (p .taken) (ap (λ z. z .columns) (p .sizes)) (c .columns-of .ensures)
 
 place-found :
     (c : tie.After-standing)
@@ -74,7 +82,7 @@ returns c =
     let s = start .args .shape in
     let st = entry start in
     let matches = start .args .matches .now in
-    let no : stepRefusal s st matches ≡ 6 = passed-rest (buffers-taken sizes) (asked s st matches)
+    let no : stepRefusal s st matches ≡ 6 = lent-rest (buffers-taken sizes) (asked s st matches)
     ∙ simp (ne-eqb (length matches) (s .rows) (c .before .if1 .taken)) in
     refused-ensured _ (stepMatches s st) matches (stepped s st) st _ 6 (no, lit< tt) (c .refused2 .ensures)
 
@@ -82,19 +90,13 @@ columns-of-requires : tie.Need-columns-of-requires
 columns-of-requires c κs = let p = buffers-taken (c .before .before) in (p .taken, ap (λ z. z .checks) (p .sizes))
 
 array-share-prefix-columns : tie.Need-array-share-prefix-columns
-array-share-prefix-columns c =
-    let p = buffers-taken (c .before .before .before) in
-    part-within _ (p .taken) _ _ (ap (λ z. z .columns) (p .sizes)) (c .columns-of .ensures)
+array-share-prefix-columns c = columns-lent c .within
 
 slice-aggregate-part : tie.Need-slice-aggregate-part
-slice-aggregate-part c =
-    let p = buffers-taken (c .before .before .before .before) in
-    part-sized _ (p .taken) _ _ (ap (λ z. z .columns) (p .sizes)) (c .before .columns-of .ensures)
+slice-aggregate-part c = columns-lent (c .before) .sized
 
 locate-requires : tie.Need-locate-requires
-locate-requires c κs =
-    let p = buffers-taken (c .before .before .before .before) in
-    (p .taken, p .sizes, part-matrix _ (p .taken) _ _ (ap (λ z. z .columns) (p .sizes)) (c .before .columns-of .ensures))
+locate-requires c κs = let p = buffers-taken (c .before .before .before .before) in (p .taken, p .sizes, columns-lent (c .before) .holds)
 
 enum-told : tie.Need-enum-told
 enum-told c = search needs
@@ -107,11 +109,9 @@ enum-known-standing c = search needs
 
 advance-requires : tie.Need-advance-requires
 advance-requires c κs =
-    let lent = c .before .before .before .before in
-    let p = buffers-taken (lent .before .before .before .before) in (
-      (p .taken, p .sizes, part-matrix _ (p .taken) _ _ (ap (λ z. z .columns) (p .sizes)) (lent .before .columns-of .ensures)),
-      place-found (c .before),
-    )
+    let made = c .before .before .before .before .before in
+    let p = buffers-taken (made .before .before .before) in
+    ((p .taken, p .sizes, columns-lent made .holds), place-found (c .before))
 
 look-and-count-requires : tie.Need-look-and-count-requires
 look-and-count-requires c κs =
@@ -133,7 +133,8 @@ returns-2 c =
     let st = entry start in
     let matches = start .args .matches .now in
     let number = c .before .before .number .given in
-    let fails = refused-rest s st (number .0 .0) (sym (c .before .before .before .before .check-lent .ensures) ∙ number .1) (asked s st matches) in
+    let no = sym (c .before .before .before .before .check-lent .ensures) ∙ number .1 in
+    let fails = lent-refused s st (number .0 .0) no (asked s st matches) in
     refused-ensured _ (stepMatches s st) matches (stepped s st) st _ (number .0 .0) fails (c .refused .ensures)
 
 returns-3 : tie.Need-returns-3
@@ -144,7 +145,7 @@ returns-3 c =
     let s = start .args .shape in
     let st = entry start in
     let matches = start .args .matches .now in
-    let no : stepRefusal s st matches ≡ 9 = passed-rest (buffers-taken sizes) (asked s st matches)
+    let no : stepRefusal s st matches ≡ 9 = lent-rest (buffers-taken sizes) (asked s st matches)
     ∙ simp (
       eq-eqb (length matches) (s .rows) (c .before .before .before .before .before .before .if1 .left),
       missed (isNext s (st .cycle)) _ (sym (c .before .before .before .locate .ensures) ∙ c .before .enum-told .given .1),
@@ -170,7 +171,7 @@ returns-4 c =
     let s = start .args .shape in
     let st = entry start in
     let matches = start .args .matches .now in
-    let none : stepRefusal s st matches ≡ 0 = passed-rest (buffers-taken sizes) (asked s st matches)
+    let none : stepRefusal s st matches ≡ 0 = lent-rest (buffers-taken sizes) (asked s st matches)
     ∙ simp (
       eq-eqb (length matches) (s .rows) (standing .before .before .before .before .before .if1 .left),
       place-found standing .0,
