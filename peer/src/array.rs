@@ -1,0 +1,147 @@
+//! The calls on an array outside its detection cycle.
+
+use crate::code::{encode, is_codeword};
+use crate::comparator::{answers, match_byte};
+use crate::cycle::Cycle;
+use crate::shape::{Layout, Refusal, Shape};
+
+/// Makes the fresh array: cells, counters and flags 0, record idle.
+pub fn clear(
+    shape: Shape,
+    cells: &mut [u8],
+    counters: &mut [u8],
+    flags: &mut [u8],
+    cycle: Cycle,
+) -> (Cycle, Result<(), Refusal>) {
+    match ask_clear(shape, cells, counters, flags) {
+        Err(refusal) => (cycle, Err(refusal)),
+        Ok(()) => {
+            cells.fill(0);
+            counters.fill(0);
+            flags.fill(0);
+            (Cycle::IDLE, Ok(()))
+        }
+    }
+}
+
+fn ask_clear(shape: Shape, cells: &[u8], counters: &[u8], flags: &[u8]) -> Result<(), Refusal> {
+    let layout = ask_cells(shape, cells)?;
+    layout.ask_length(counters, layout.rows())?;
+    layout.ask_length(flags, layout.rows())
+}
+
+/// Programs a row with k levels and their check cells. The record becomes
+/// idle.
+pub fn program(
+    shape: Shape,
+    cells: &mut [u8],
+    row: usize,
+    levels: &[u8],
+    cycle: Cycle,
+) -> (Cycle, Result<(), Refusal>) {
+    match ask_program(shape, cells, row, levels) {
+        Err(refusal) => (cycle, Err(refusal)),
+        Ok(layout) => {
+            let start = row * layout.columns();
+            let end = start + layout.columns();
+            let row = &mut cells[start..end];
+            row[..layout.width()].copy_from_slice(levels);
+            encode(&layout, row);
+            (Cycle::IDLE, Ok(()))
+        }
+    }
+}
+
+fn ask_program(shape: Shape, cells: &[u8], row: usize, levels: &[u8]) -> Result<Layout, Refusal> {
+    let layout = ask_cells(shape, cells)?;
+    layout.ask_length(levels, layout.width())?;
+    layout.ask_row(row)?;
+    layout.ask_levels(levels)?;
+    Ok(layout)
+}
+
+/// Lets one cell drift to a level. Nothing else changes.
+pub fn drift(
+    shape: Shape,
+    cells: &mut [u8],
+    row: usize,
+    column: usize,
+    level: u8,
+) -> Result<(), Refusal> {
+    let layout = ask_cells(shape, cells)?;
+    layout.ask_row(row)?;
+    layout.ask_column(column)?;
+    layout.ask_levels(&[level])?;
+    cells[row * layout.columns() + column] = level;
+    Ok(())
+}
+
+/// A task lookup of k inputs, the check columns fed 0: writes one match byte
+/// per row and gives the number of matches.
+pub fn lookup(
+    shape: Shape,
+    cells: &[u8],
+    inputs: &[u8],
+    matches: &mut [u8],
+) -> Result<usize, Refusal> {
+    let layout = ask_cells(shape, cells)?;
+    layout.ask_length(inputs, layout.width())?;
+    layout.ask_length(matches, layout.rows())?;
+    layout.ask_levels(inputs)?;
+    let mut found = 0;
+    for (row, line) in rows(&layout, cells).zip(matches) {
+        *line = match_byte(row, inputs);
+        found += usize::from(*line);
+    }
+    Ok(found)
+}
+
+/// The number of the first row that matches k inputs, fed as in a task lookup.
+pub fn first_match(shape: Shape, cells: &[u8], inputs: &[u8]) -> Result<Option<usize>, Refusal> {
+    let layout = ask_cells(shape, cells)?;
+    layout.ask_length(inputs, layout.width())?;
+    layout.ask_levels(inputs)?;
+    'rows: for (number, row) in rows(&layout, cells).enumerate() {
+        for (&cell, &input) in row.iter().zip(inputs) {
+            if !answers(cell, input) {
+                continue 'rows;
+            }
+        }
+        return Ok(Some(number));
+    }
+    Ok(None)
+}
+
+/// Whether a row is sound.
+pub fn sound(shape: Shape, cells: &[u8], row: usize) -> Result<bool, Refusal> {
+    let layout = ask_cells(shape, cells)?;
+    layout.ask_row(row)?;
+    Ok(is_codeword(&layout, row_of(&layout, cells, row)))
+}
+
+/// Copies the k rule cells of a row out.
+pub fn read(shape: Shape, cells: &[u8], row: usize, out: &mut [u8]) -> Result<(), Refusal> {
+    let layout = ask_cells(shape, cells)?;
+    layout.ask_length(out, layout.width())?;
+    layout.ask_row(row)?;
+    out.copy_from_slice(&row_of(&layout, cells, row)[..layout.width()]);
+    Ok(())
+}
+
+/// Questions 1 to 5, and question 6 for the cells.
+fn ask_cells(shape: Shape, cells: &[u8]) -> Result<Layout, Refusal> {
+    let layout = shape.layout()?;
+    layout.ask_length(cells, layout.cells())?;
+    Ok(layout)
+}
+
+/// The rows of the array, in order.
+fn rows<'a>(layout: &Layout, cells: &'a [u8]) -> impl Iterator<Item = &'a [u8]> {
+    cells.chunks_exact(layout.columns())
+}
+
+/// One row of the array.
+fn row_of<'a>(layout: &Layout, cells: &'a [u8], row: usize) -> &'a [u8] {
+    let start = row * layout.columns();
+    &cells[start..start + layout.columns()]
+}

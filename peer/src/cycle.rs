@@ -1,0 +1,286 @@
+//! The detection cycle: its record, start and step.
+//!
+//! Schedule: check rows ℓ upwards; within it digits s from the highest down;
+//! within it the columns j of J(ℓ) upwards; within it the factors a from 1
+//! below q / ρ^s that ρ does not divide, upwards. The vector is a × ρ^s in
+//! column j and 0 elsewhere.
+
+use crate::comparator::answers;
+use crate::matrix::ones_in_row;
+use crate::shape::{Layout, Refusal, Shape};
+
+/// Where a cycle is.
+#[derive(Clone, Copy, Debug, PartialEq, Eq, Hash)]
+pub enum Phase {
+    /// No cycle since the array was cleared or a row programmed.
+    Idle,
+    /// A vector is still to come.
+    Open,
+    /// All vectors have been looked up.
+    Complete,
+}
+
+/// The cycle record. While the cycle is open, check row, digit, column and
+/// factor are those of the next vector; they are 0 otherwise.
+#[derive(Clone, Copy, Debug, PartialEq, Eq, Hash)]
+pub struct Cycle {
+    /// Where the cycle is.
+    pub phase: Phase,
+    /// ℓ, the check row.
+    pub row: usize,
+    /// s, the digit.
+    pub digit: usize,
+    /// j, the column.
+    pub column: usize,
+    /// a, the factor.
+    pub factor: usize,
+    /// The number of steps made.
+    pub count: usize,
+}
+
+impl Cycle {
+    /// The idle record.
+    pub const IDLE: Cycle = Cycle {
+        phase: Phase::Idle,
+        row: 0,
+        digit: 0,
+        column: 0,
+        factor: 0,
+        count: 0,
+    };
+
+    /// The record that a start leaves.
+    pub fn open(layout: &Layout) -> Cycle {
+        Cycle {
+            phase: Phase::Open,
+            row: 0,
+            digit: layout.digits() - 1,
+            column: next_in_support(layout, 0, 0),
+            factor: 1,
+            count: 0,
+        }
+    }
+
+    /// The record that the last step leaves.
+    fn complete(count: usize) -> Cycle {
+        Cycle {
+            phase: Phase::Complete,
+            count,
+            ..Cycle::IDLE
+        }
+    }
+
+    /// Question 9: whether a start and `count` accepted steps leave this
+    /// record, with a vector still to come.
+    fn awaits_step(&self, layout: &Layout) -> bool {
+        self.phase == Phase::Open && self.rank(layout) == Some(self.count)
+    }
+
+    /// How many vectors come before this record's one, or none where the
+    /// schedule has no such vector.
+    fn rank(&self, layout: &Layout) -> Option<usize> {
+        if self.row >= layout.checks() || self.digit >= layout.digits() {
+            return None;
+        }
+        let radix = layout.radix();
+        let bound = self.bound(layout);
+        if self.factor >= bound || self.factor.is_multiple_of(radix) {
+            return None;
+        }
+        let place = place_in_support(layout, self.row, self.column)?;
+        let size = layout.support_size(self.row);
+        let earlier_rows = layout.weight_before(self.row) * (layout.levels() - 1);
+        let earlier_digits = size * (bound / radix - 1);
+        let earlier_columns = place * (bound - bound / radix);
+        let earlier_factors = self.factor - self.factor / radix - 1;
+        Some(earlier_rows + earlier_digits + earlier_columns + earlier_factors)
+    }
+
+    /// The factors of the digit lie below this power of the radix.
+    fn bound(&self, layout: &Layout) -> usize {
+        layout.radix().pow((layout.digits() - self.digit) as u32)
+    }
+
+    /// The only nonzero input of the vector, at most q − 1.
+    fn input(&self, layout: &Layout) -> u8 {
+        (self.factor * layout.radix().pow(self.digit as u32)) as u8
+    }
+
+    /// Whether the vector is the last one of its digit: the last column of a
+    /// check row's set is its check column, and the last factor is one below
+    /// the bound.
+    fn ends_digit(&self, layout: &Layout) -> bool {
+        self.column == layout.width() + self.row && self.factor + 1 == self.bound(layout)
+    }
+
+    /// Whether the vector is the last one of its check row.
+    fn ends_row(&self, layout: &Layout) -> bool {
+        self.digit == 0 && self.ends_digit(layout)
+    }
+
+    /// The record after one more step.
+    fn next(self, layout: &Layout) -> Cycle {
+        let mut next = self;
+        next.count += 1;
+        if self.factor + 1 < self.bound(layout) {
+            next.factor = next_factor(self.factor, layout.radix());
+            return next;
+        }
+        next.factor = 1;
+        if !self.ends_digit(layout) {
+            next.column = next_in_support(layout, self.row, self.column + 1);
+            return next;
+        }
+        if self.digit > 0 {
+            next.digit = self.digit - 1;
+        } else if self.row + 1 < layout.checks() {
+            next.row = self.row + 1;
+            next.digit = layout.digits() - 1;
+        } else {
+            return Cycle::complete(next.count);
+        }
+        next.column = next_in_support(layout, next.row, 0);
+        next
+    }
+}
+
+/// The next factor that the radix does not divide.
+fn next_factor(factor: usize, radix: usize) -> usize {
+    if (factor + 1).is_multiple_of(radix) {
+        factor + 2
+    } else {
+        factor + 1
+    }
+}
+
+/// The first column of J(ℓ) from the given one on; the check column at last.
+fn next_in_support(layout: &Layout, row: usize, from: usize) -> usize {
+    layout
+        .rules()
+        .iter()
+        .skip(from)
+        .position(|rule| rule >> row & 1 == 1)
+        .map_or(layout.width() + row, |ahead| from + ahead)
+}
+
+/// How many columns of J(ℓ) come before the given one, or none where it is not
+/// in the set.
+fn place_in_support(layout: &Layout, row: usize, column: usize) -> Option<usize> {
+    let rules = layout.rules();
+    match rules.get(column) {
+        Some(rule) if rule >> row & 1 == 1 => Some(ones_in_row(&rules[..column], row)),
+        None if column == layout.width() + row => Some(ones_in_row(rules, row)),
+        _ => None,
+    }
+}
+
+/// Starts a cycle: counters and flags 0, record open with count 0.
+pub fn start(
+    shape: Shape,
+    counters: &mut [u8],
+    flags: &mut [u8],
+    cycle: Cycle,
+) -> (Cycle, Result<(), Refusal>) {
+    match ask_start(shape, counters, flags) {
+        Err(refusal) => (cycle, Err(refusal)),
+        Ok(layout) => {
+            counters.fill(0);
+            flags.fill(0);
+            (Cycle::open(&layout), Ok(()))
+        }
+    }
+}
+
+fn ask_start(shape: Shape, counters: &[u8], flags: &[u8]) -> Result<Layout, Refusal> {
+    let layout = shape.layout()?;
+    layout.ask_length(counters, layout.rows())?;
+    layout.ask_length(flags, layout.rows())?;
+    Ok(layout)
+}
+
+/// Makes the next lookup of the schedule: writes the match bytes, adds each to
+/// its row's counter mod the radix, and moves the record on. At the end of a
+/// digit the rows whose counter is not 0 are flagged; at the end of a check
+/// row the counters return to 0.
+pub fn step(
+    shape: Shape,
+    cells: &[u8],
+    counters: &mut [u8],
+    flags: &mut [u8],
+    matches: &mut [u8],
+    cycle: Cycle,
+) -> (Cycle, Result<(), Refusal>) {
+    let layout = match ask_step(shape, cells, counters, flags, matches, &cycle) {
+        Err(refusal) => return (cycle, Err(refusal)),
+        Ok(layout) => layout,
+    };
+    look_up(&layout, &cycle, cells, matches);
+    add_matches(&layout, counters, matches);
+    if cycle.ends_digit(&layout) {
+        raise_flags(counters, flags);
+    }
+    if cycle.ends_row(&layout) {
+        counters.fill(0);
+    }
+    (cycle.next(&layout), Ok(()))
+}
+
+fn ask_step(
+    shape: Shape,
+    cells: &[u8],
+    counters: &[u8],
+    flags: &[u8],
+    matches: &[u8],
+    cycle: &Cycle,
+) -> Result<Layout, Refusal> {
+    let layout = shape.layout()?;
+    layout.ask_length(cells, layout.cells())?;
+    layout.ask_length(counters, layout.rows())?;
+    layout.ask_length(flags, layout.rows())?;
+    layout.ask_length(matches, layout.rows())?;
+    if cycle.awaits_step(&layout) {
+        Ok(layout)
+    } else {
+        Err(Refusal::Record)
+    }
+}
+
+/// Feeds the record's vector. All columns but one are fed 0 and answer 1, so
+/// the match byte of a row is the answer of its cell in that one column.
+fn look_up(layout: &Layout, cycle: &Cycle, cells: &[u8], matches: &mut [u8]) {
+    let input = cycle.input(layout);
+    let rows = cells.chunks_exact(layout.columns());
+    for (row, line) in rows.zip(matches) {
+        *line = u8::from(answers(row[cycle.column], input));
+    }
+}
+
+/// Adds each match byte to its row's counter mod the radix.
+fn add_matches(layout: &Layout, counters: &mut [u8], matches: &[u8]) {
+    let radix = layout.radix() as u8;
+    bring_below(counters, radix);
+    for (counter, &line) in counters.iter_mut().zip(matches) {
+        let sum = *counter + line;
+        *counter = if sum == radix { 0 } else { sum };
+    }
+}
+
+/// Any byte found in a counter counts by its remainder. The cycle itself
+/// leaves none at the radix or above, so the remainders are seldom taken.
+fn bring_below(counters: &mut [u8], radix: u8) {
+    let largest = counters.iter().fold(0, |most, &counter| counter.max(most));
+    if largest >= radix {
+        for counter in counters {
+            *counter %= radix;
+        }
+    }
+}
+
+/// Flags the rows whose counter is not 0.
+fn raise_flags(counters: &[u8], flags: &mut [u8]) {
+    for (flag, &counter) in flags.iter_mut().zip(counters) {
+        if counter != 0 {
+            *flag = 1;
+        }
+    }
+}

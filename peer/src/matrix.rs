@@ -1,0 +1,168 @@
+//! The parity-check matrix.
+//!
+//! A column of the matrix is a number of as many bits as there are check
+//! columns; bit ℓ says whether the column has a one in check row ℓ. Check
+//! column k + ℓ is 2^ℓ, so only the rule columns are kept in tables.
+
+use crate::shape::{Layout, Shape};
+
+/// The largest number of check columns.
+pub const MAX_CHECKS: usize = 8;
+
+/// The largest number of rule columns.
+pub const MAX_WIDTH: usize = 254;
+
+/// The largest number of rule columns for each number of changed cells to be
+/// caught (1 to 3) and each number of check columns (1 to 8). One changed cell
+/// is always caught with one check column.
+pub const LARGEST_WIDTH: [[usize; MAX_CHECKS]; Shape::MAX_ERRORS] = [
+    [MAX_WIDTH, 0, 0, 0, 0, 0, 0, 0],
+    [0, 1, 4, 11, 26, 57, 120, 247],
+    [0, 0, 1, 4, 11, 26, 57, 120],
+];
+
+/// The 255 nonzero bytes, fewest ones first, and increasing among equals.
+pub const ORDER: [u8; 255] = order();
+
+const fn order() -> [u8; 255] {
+    let mut table = [0; 255];
+    let mut filled = 0;
+    let mut ones = 1;
+    while ones <= 8 {
+        let mut byte = u8::MIN;
+        while byte < u8::MAX {
+            byte += 1;
+            if byte.count_ones() == ones {
+                table[filled] = byte;
+                filled += 1;
+            }
+        }
+        ones += 1;
+    }
+    table
+}
+
+/// The rule columns for each number of changed cells and of check columns, as
+/// many as fit; the places behind them hold 0 and are never used.
+static RULE_COLUMNS: [[[u8; MAX_WIDTH]; MAX_CHECKS]; Shape::MAX_ERRORS] = all_rule_columns();
+
+const fn all_rule_columns() -> [[[u8; MAX_WIDTH]; MAX_CHECKS]; Shape::MAX_ERRORS] {
+    let mut tables = [[[0; MAX_WIDTH]; MAX_CHECKS]; Shape::MAX_ERRORS];
+    let mut checks = 1;
+    while checks <= MAX_CHECKS {
+        tables[0][checks - 1] = [1; MAX_WIDTH];
+        tables[1][checks - 1] = chosen(2, checks);
+        tables[2][checks - 1] = chosen(3, checks);
+        checks += 1;
+    }
+    tables
+}
+
+/// The entries of the order below 2^checks that may serve as rule columns.
+const fn chosen(errors: usize, checks: usize) -> [u8; MAX_WIDTH] {
+    let mut columns = [0; MAX_WIDTH];
+    let mut filled = 0;
+    let mut place = 0;
+    while place < ORDER.len() {
+        let column = ORDER[place];
+        if (column as usize) < 1 << checks && may_be_rule(errors, column) {
+            columns[filled] = column;
+            filled += 1;
+        }
+        place += 1;
+    }
+    columns
+}
+
+/// Two ones or more for two changed cells; an odd count of ones, three or
+/// more, for three.
+const fn may_be_rule(errors: usize, column: u8) -> bool {
+    let ones = column.count_ones();
+    ones >= 2 && (errors == 2 || ones % 2 == 1)
+}
+
+/// The least number of check columns that carries the rule columns, or none
+/// where there is no rule column or no number carries them.
+pub(crate) fn checks(errors: usize, width: usize) -> Option<usize> {
+    if width == 0 {
+        return None;
+    }
+    let least = LARGEST_WIDTH[errors - 1]
+        .iter()
+        .position(|&largest| width <= largest)?;
+    Some(least + 1)
+}
+
+/// The first so many rule columns.
+pub(crate) fn rule_columns(errors: usize, checks: usize, width: usize) -> &'static [u8] {
+    &RULE_COLUMNS[errors - 1][checks - 1][..width]
+}
+
+impl Layout {
+    /// The columns of the check matrix: rule columns, then check columns.
+    pub fn matrix(&self) -> impl Iterator<Item = u8> {
+        let checks = (0..self.checks()).map(|row| 1 << row);
+        self.rules().iter().copied().chain(checks)
+    }
+
+    /// J(ℓ): the columns with a one in the check row, in increasing order.
+    ///
+    /// # Panics
+    ///
+    /// If there is no such check row.
+    pub fn support(&self, row: usize) -> impl Iterator<Item = usize> {
+        assert!(row < self.checks(), "no such check row");
+        self.matrix()
+            .enumerate()
+            .filter(move |(_, ones)| ones >> row & 1 == 1)
+            .map(|(column, _)| column)
+    }
+
+    /// The size of J(ℓ): the rule columns with a one in the check row, and the
+    /// row's own check column.
+    ///
+    /// # Panics
+    ///
+    /// If there is no such check row.
+    pub fn support_size(&self, row: usize) -> usize {
+        assert!(row < self.checks(), "no such check row");
+        ones_in_row(self.rules(), row) + 1
+    }
+
+    /// The sizes of J(0) to J(ℓ − 1) together.
+    ///
+    /// # Panics
+    ///
+    /// If there is no check row ℓ.
+    pub fn weight_before(&self, row: usize) -> usize {
+        assert!(row < self.checks(), "no such check row");
+        ones_before_row(self.rules(), row) + row
+    }
+
+    /// W: the sizes of all J(ℓ) together.
+    pub fn weight(&self) -> usize {
+        (0..self.checks()).map(|row| self.support_size(row)).sum()
+    }
+
+    /// The number of vectors in a detection cycle.
+    pub fn lookups(&self) -> usize {
+        (self.levels() - 1) * self.weight()
+    }
+}
+
+/// How many of the columns have a one in the check row. There are at most 254
+/// of them, so a byte holds the count.
+pub(crate) fn ones_in_row(columns: &[u8], row: usize) -> usize {
+    let ones: u8 = columns.iter().map(|column| column >> row & 1).sum();
+    usize::from(ones)
+}
+
+/// How many ones the columns have in the check rows before the given one.
+pub(crate) fn ones_before_row(columns: &[u8], row: usize) -> usize {
+    let earlier = (1u8 << row) - 1;
+    let ones: u16 = columns
+        .iter()
+        .map(|column| (column & earlier).count_ones() as u16)
+        .sum();
+    usize::from(ones)
+}

@@ -1,0 +1,243 @@
+//! Demand 3 on random lists of calls, with the log kept beside the run. The
+//! log is fed the shape and the calls with their arguments, and none of the
+//! library's answers.
+
+mod naive;
+
+use naive::Spec;
+use peer::list::{Array, Call};
+use peer::random::{list, short_cycle_shape, Random};
+use peer::{Phase, Shape};
+
+#[derive(Clone, Copy, Debug, PartialEq, Eq)]
+enum LoggedCycle {
+    None,
+    Open,
+    Ended,
+}
+
+/// What a list did.
+struct Log {
+    spec: Spec,
+    written: Vec<Vec<u8>>,
+    standing: Vec<Vec<u8>>,
+    cycle: LoggedCycle,
+    count: usize,
+    mark: bool,
+    /// Whether the last call is a step that ended a cycle.
+    just_ended: bool,
+}
+
+impl Log {
+    fn new(shape: Shape) -> Log {
+        let spec = naive::questions(shape).expect("a good shape");
+        let zeros = vec![vec![0; spec.columns()]; shape.rows];
+        Log {
+            spec,
+            written: zeros.clone(),
+            standing: zeros,
+            cycle: LoggedCycle::None,
+            count: 0,
+            mark: false,
+            just_ended: false,
+        }
+    }
+
+    fn below(&self, levels: &[u8]) -> bool {
+        levels
+            .iter()
+            .all(|&level| usize::from(level) < self.spec.levels)
+    }
+
+    fn feed(&mut self, call: &Call) {
+        self.just_ended = false;
+        match call {
+            Call::Clear => *self = Log::new(self.spec.shape),
+            Call::Program { row, levels } => self.program(*row, levels),
+            Call::Drift { row, column, level } => self.drift(*row, *column, *level),
+            Call::Lookup { .. } => {}
+            Call::Start => {
+                self.cycle = LoggedCycle::Open;
+                self.count = 0;
+                self.mark = false;
+            }
+            Call::Step { matches } => self.step(matches.len()),
+        }
+    }
+
+    fn program(&mut self, row: usize, levels: &[u8]) {
+        let shape = self.spec.shape;
+        if row < shape.rows && levels.len() == shape.width && self.below(levels) {
+            self.written[row] = self.spec.encoded(levels);
+            self.standing[row] = self.written[row].clone();
+            self.cycle = LoggedCycle::None;
+            self.count = 0;
+        }
+    }
+
+    fn drift(&mut self, row: usize, column: usize, level: u8) {
+        if row < self.spec.shape.rows && column < self.spec.columns() && self.below(&[level]) {
+            self.standing[row][column] = level;
+            self.mark = true;
+        }
+    }
+
+    fn step(&mut self, match_bytes: usize) {
+        if self.cycle == LoggedCycle::Open && match_bytes == self.spec.shape.rows {
+            self.count += 1;
+            if self.count == (self.spec.levels - 1) * self.spec.weight() {
+                self.cycle = LoggedCycle::Ended;
+                self.just_ended = true;
+            }
+        }
+    }
+
+    /// The cells in which the two forms of a row differ.
+    fn differing(&self, row: usize) -> usize {
+        self.written[row]
+            .iter()
+            .zip(&self.standing[row])
+            .filter(|(written, standing)| written != standing)
+            .count()
+    }
+}
+
+/// How often each part of the claim was exercised.
+#[derive(Debug, Default)]
+struct Seen {
+    verdicts: usize,
+    clean_rows: usize,
+    changed_rows: [usize; 4],
+    rows_beyond: usize,
+    missed_beyond: usize,
+    ended_with_mark: usize,
+    refused: usize,
+    idle: usize,
+    open: usize,
+    complete: usize,
+}
+
+/// The claim after a list.
+fn check(log: &Log, array: &Array, seen: &mut Seen) {
+    assert_eq!(array.cells, log.standing.concat());
+    let phase = match log.cycle {
+        LoggedCycle::None => Phase::Idle,
+        LoggedCycle::Open => Phase::Open,
+        LoggedCycle::Ended => Phase::Complete,
+    };
+    assert_eq!(array.cycle.phase, phase);
+    assert_eq!(array.cycle.count, log.count);
+    match phase {
+        Phase::Idle => seen.idle += 1,
+        Phase::Open => seen.open += 1,
+        Phase::Complete => seen.complete += 1,
+    }
+    if log.just_ended {
+        if log.mark {
+            seen.ended_with_mark += 1;
+        } else {
+            check_verdict(log, array, seen);
+        }
+    }
+}
+
+/// The flags after a cycle that ended with the mark off.
+fn check_verdict(log: &Log, array: &Array, seen: &mut Seen) {
+    seen.verdicts += 1;
+    for row in 0..log.spec.shape.rows {
+        let differing = log.differing(row);
+        if differing == 0 {
+            assert_eq!(array.flags[row], 0);
+            seen.clean_rows += 1;
+        } else if differing <= log.spec.shape.errors {
+            assert_eq!(array.flags[row], 1);
+            seen.changed_rows[differing] += 1;
+        } else {
+            seen.rows_beyond += 1;
+            seen.missed_beyond += usize::from(array.flags[row] == 0);
+        }
+    }
+}
+
+/// Runs a list from the fresh array. Each beginning of a list is a list, so
+/// the claim is checked after every call.
+fn run(shape: Shape, calls: Vec<Call>, seen: &mut Seen) {
+    let mut log = Log::new(shape);
+    let mut array = Array::fresh(shape).expect("a good shape");
+    check(&log, &array, seen);
+    for mut call in calls {
+        log.feed(&call);
+        let reply = array.apply(&mut call);
+        seen.refused += usize::from(reply.number != 0);
+        check(&log, &array, seen);
+    }
+}
+
+#[test]
+fn demand_3_holds_on_random_lists() {
+    let mut random = Random::new(13);
+    let mut seen = Seen::default();
+    for _ in 0..20_000 {
+        let shape = short_cycle_shape(&mut random, 120);
+        let pieces = random.below(14);
+        let calls = list(&mut random, shape, pieces);
+        run(shape, calls, &mut seen);
+    }
+    println!("{seen:?}");
+    assert!(seen.verdicts > 5000);
+    assert!(seen.clean_rows > 5000);
+    assert!(seen.changed_rows[1..].iter().all(|&rows| rows > 100));
+    assert!(seen.rows_beyond > 100);
+    assert!(seen.missed_beyond > 0);
+    assert!(seen.ended_with_mark > 100);
+    assert!(seen.refused > 1000);
+    assert!(seen.idle > 1000 && seen.open > 1000 && seen.complete > 1000);
+}
+
+/// Every change of up to τ cells of a row is caught: all places and levels on
+/// some small shapes.
+#[test]
+fn every_change_of_few_cells_is_flagged() {
+    for (radix, digits, errors, width) in [
+        (2, 2, 1, 3),
+        (3, 1, 1, 2),
+        (4, 1, 2, 1),
+        (3, 1, 2, 2),
+        (2, 1, 3, 4),
+        (3, 1, 3, 1),
+    ] {
+        let shape = Shape {
+            radix,
+            digits,
+            errors,
+            width,
+            rows: 1,
+        };
+        let spec = naive::questions(shape).unwrap();
+        let levels: Vec<u8> = (0..width).map(|c| (c * 5 % spec.levels) as u8).collect();
+        let written = spec.encoded(&levels);
+        for number in 0..spec.levels.pow(spec.columns() as u32) {
+            let standing: Vec<u8> = (0..spec.columns())
+                .map(|c| (number / spec.levels.pow(c as u32) % spec.levels) as u8)
+                .collect();
+            let pairs = written.iter().zip(&standing);
+            let differing = pairs.filter(|(a, b)| a != b).count();
+            if differing <= errors {
+                let flag = flag_after_cycle(shape, &standing);
+                assert_eq!(flag, u8::from(differing > 0), "{shape:?} {standing:?}");
+            }
+        }
+    }
+}
+
+/// The flag of the only row after one cycle.
+fn flag_after_cycle(shape: Shape, cells: &[u8]) -> u8 {
+    let mut array = Array::fresh(shape).unwrap();
+    array.cells.copy_from_slice(cells);
+    assert_eq!(array.apply(&mut Call::Start).number, 0);
+    while array.cycle.phase == Phase::Open {
+        let reply = array.apply(&mut Call::Step { matches: vec![0] });
+        assert_eq!(reply.number, 0);
+    }
+    array.flags[0]
+}
