@@ -1,0 +1,4 @@
+-- What a reader has to believe of the job program: its input, its text, and the whole of it, `jobText`.
+pub mod Parse
+pub mod Text
+pub mod Job

@@ -1,0 +1,84 @@
+-- `run_job::main` meets its contract: the text is within its buffer. Assumes nothing.
+use mathlib.Core.Path.{sym, _∙_, subst}
+use Prim.Native.Nat.{ℕ, _≤_}
+use native.Mathlib.Omega.{arith}
+use lib.ListN.{length-replicate}
+use lib.Seq.{length-take-le}
+use borrow.Author.Needs.{needs}
+use Rattle.run_job.proofs.main.Statement.{statement}
+use Rattle.run_job.proofs.main.Tie as tie
+use Rattle.run_job.proofs.main.Reads as reads
+use Rattle.run_job.proofs.main.Lts as lts
+use Rattle.io.proofs.read_full.Reads as read-full-reads
+use Rattle.io.proofs.write_all.Reads as write-all-reads
+use Rattle.job.proofs.job.Reads as job-reads
+
+slice-aggregate-read-full : tie.Need-slice-aggregate-read-full
+slice-aggregate-read-full c = search needs
+
+read-full-requires : tie.Need-read-full-requires
+read-full-requires c κs = search needs
+
+array-share-prefix-input : tie.Need-array-share-prefix-input
+array-share-prefix-input c = search needs
+
+slice-aggregate-job : tie.Need-slice-aggregate-job
+slice-aggregate-job c = search needs
+
+slice-aggregate-job-2 : tie.Need-slice-aggregate-job-2
+slice-aggregate-job-2 c = search needs
+
+slice-aggregate-job-3 : tie.Need-slice-aggregate-job-3
+slice-aggregate-job-3 c = search needs
+
+slice-aggregate-job-4 : tie.Need-slice-aggregate-job-4
+slice-aggregate-job-4 c = search needs
+
+slice-aggregate-job-5 : tie.Need-slice-aggregate-job-5
+slice-aggregate-job-5 c = search needs
+
+slice-aggregate-job-6 : tie.Need-slice-aggregate-job-6
+slice-aggregate-job-6 c = search needs
+
+job-requires : tie.Need-job-requires
+job-requires c κs = search needs
+
+returns : tie.Need-returns
+returns c = search needs
+
+array-share-prefix-out : tie.Need-array-share-prefix-out
+array-share-prefix-out c =
+    let call = c .before .before .before .before .before .before .job in
+    subst (λ n. call .result ≤ n) (sym (call .kept .1 .1 .1 .1 .1 .0 ∙ length-replicate {A = ℕ} 200000 0)) (c .if1 .left)
+
+slice-aggregate-write-all : tie.Need-slice-aggregate-write-all
+slice-aggregate-write-all c =
+    let call = c .before .before .before .before .before .before .before .job in
+    sym (length-take-le (call .result) (call .last .1 .1 .1 .1 .1 .0)
+    (subst (λ n. call .result ≤ n) (sym (call .kept .1 .1 .1 .1 .1 .0 ∙ length-replicate {A = ℕ} 200000 0)) (c .before .if1 .left)))
+
+write-all-requires : tie.Need-write-all-requires
+write-all-requires c κs = search needs
+
+returns-2 : tie.Need-returns-2
+returns-2 c = search needs
+
+pub main-spec : {M : Type 1} → statement M
+main-spec =
+    tie.close
+    (tie.spec
+    slice-aggregate-read-full
+    read-full-requires
+    array-share-prefix-input
+    slice-aggregate-job
+    slice-aggregate-job-2
+    slice-aggregate-job-3
+    slice-aggregate-job-4
+    slice-aggregate-job-5
+    slice-aggregate-job-6
+    job-requires
+    returns
+    array-share-prefix-out
+    slice-aggregate-write-all
+    write-all-requires
+    returns-2)
