@@ -1,4 +1,4 @@
--- Document 01, "Questions at the door": how questions are asked, those on a shape, and those on what a call is given.
+-- Document 01's questions: how they are asked, those on a shape, and those on what a call is given.
 use mathlib.Core.Path.{_≡_}
 use mathlib.Core.Bool.{Bool, cond, _&&_}
 use mathlib.Core.List.{List, [], _∷_}
