@@ -1,8 +1,4 @@
 -- The laws that several functions' proofs cite, and the proofs of this crate's functions, each in the folder of its function.
-pub mod Sizes
-pub mod Weights
-pub mod MatrixOnes
-pub mod MatrixArray
 pub mod Tail
 pub mod DigitLoop
 pub mod DigitCells

@@ -10,7 +10,7 @@ ghost use Rattle.parity.specs.Lists.{tabulate};
 ghost use Rattle.parity.specs.Shape.{columns as columnsOf};
 ghost use Rattle.parity.specs.Codeword.{encode};
 ghost use Rattle.parity.specs.Questions.{Taken};
-ghost use Rattle.acam.specs.Matrices.{matrixArray};
+ghost use Rattle.matrix.specs.Matrices.{matrixArray};
 
 // One more digit in each check cell: what brings its check row's sum to 0 mod ρ, at ρ^s = power.
 fn add_check_digits(cells: &mut [u8], sums: [usize; 8], radix: usize, power: usize)

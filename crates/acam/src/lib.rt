@@ -1,8 +1,6 @@
-// The lower part of the sorting head's library: the parity-check matrix of an analog content-addressable
-// memory (a-CAM), the encoder of its check cells and its comparator.
+// The lower part of the sorting head's library: the comparator of an analog content-addressable memory
+// (a-CAM) and the encoder of its check cells, over the check matrix.
 pub mod compare;
 pub mod encode;
-pub mod matrix;
-pub mod row;
 pub mod sound;
 mod sums;

@@ -10,7 +10,7 @@ ghost use Rattle.parity.specs.Lists.{every, everyTo};
 ghost use Rattle.parity.specs.Shape.{levels as levelsOf, checks as checksOf, columns as columnsOf};
 ghost use Rattle.parity.specs.Codeword.{isCodeword};
 ghost use Rattle.parity.specs.Questions.{Taken};
-ghost use Rattle.acam.specs.Matrices.{matrixArray};
+ghost use Rattle.matrix.specs.Matrices.{matrixArray};
 
 // Whether every byte is below a bound.
 pub fn all_below(bytes: &[u8], bound: usize) -> bool

@@ -1,11 +1,11 @@
 // The cells of an array: their number, and one row of them.
-use acam::matrix::columns_of;
 use acam::sound::is_sound;
 use limits::answer::Outcome;
 use limits::answer::Verdict;
 use limits::byte::copy;
 use limits::shape::Checked;
 use limits::shape::check_shape;
+use matrix::columns::columns_of;
 use parity::Shape;
 ghost use mathlib.Core.Path.{_≡_};
 ghost use mathlib.Core.List.{_++_, _∷_, []};

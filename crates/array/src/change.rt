@@ -1,12 +1,12 @@
 // Changes of the cells: the writing of a row, and drift.
 use super::cells::check_cells;
 use acam::encode::write_checks;
-use acam::matrix::columns_of;
 use acam::sound::all_below;
 use limits::answer::Outcome;
 use limits::byte::copy;
 use limits::byte::wide;
 use limits::shape::Checked;
+use matrix::columns::columns_of;
 use parity::Shape;
 ghost use mathlib.Core.Path.{_≡_};
 ghost use lib.ListN.{length};

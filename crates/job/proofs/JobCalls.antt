@@ -14,15 +14,15 @@ use Rattle.parity.specs.declared.Shape.{Shape}
 use Rattle.limits.proofs.Refusals.{taken-rest}
 use Rattle.array.specs.Arrays.{cellCount, programRefusal, programCells}
 use Rattle.scrub.specs.Record.{idle}
-use Rattle.scrub.specs.Calls.{State, clearRefusal, fresh, clearCall, programCall, driftCall, stepArguments, stepRefusal, stepCall}
+use Rattle.scrub.specs.Calls.{Sized, State, clearRefusal, fresh, clearCall, programCall, driftCall, stepArguments, stepRefusal, stepCall}
 use Rattle.scrub.specs.Run.{Call, clear, start, program, drift, step, result, runFrom, run}
-use Rattle.scrub.specs.Methods.{stateOf, cycleRefusal, cycleCall}
-use Rattle.scrub.specs.Claims.{Sized}
+use Rattle.scrub.specs.Methods.{stateOf}
+use Rattle.detection.specs.Whole.{cycleRefusal, cycleCall}
 use Rattle.scrub.proofs.Asked.{clear-asked}
 use Rattle.scrub.proofs.Given.{makes}
 use Rattle.scrub.proofs.Lent.{lengthQuestions}
-use Rattle.scrub.proofs.Course.{fresh-sized}
-use Rattle.job.specs.Parse.{jobShape, rowLevels, driftCount, driftRow, driftColumn, driftLevel}
+use Rattle.detection.proofs.Course.{fresh-sized}
+use Rattle.parse.specs.Parse.{jobShape, rowLevels, driftCount, driftRow, driftColumn, driftLevel}
 use Rattle.job.specs.Job.{jobCalls, jobState}
 use Rattle.job.proofs.Runs.{run-append}
 

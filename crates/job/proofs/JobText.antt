@@ -8,10 +8,10 @@ use lib.Dec.{leb, ltb}
 use lib.ListN.{length}
 use borrow.Author.Tests.{leb-true, ltb-true}
 use Rattle.scrub.proofs.Given.{keeps, makes}
-use Rattle.job.specs.Parse.{jobShape, jobRefusal}
-use Rattle.job.specs.Text.{refusedText, written}
+use Rattle.parse.specs.Parse.{jobShape, jobRefusal}
+use Rattle.text.specs.Text.{refusedText, written}
 use Rattle.job.specs.Job.{jobState, reportText, jobText, roomy}
-use Rattle.job.proofs.Written.{Wrote, wrote-start}
+use Rattle.text.proofs.Written.{Wrote, wrote-start}
 
 module _ (input : List ℕ) where
   pub refused-text : (n : ℕ) → (jobRefusal input ≡ n) × (0 < n) → refusedText n ≡ jobText input

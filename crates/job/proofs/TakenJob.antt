@@ -20,9 +20,9 @@ use Rattle.parity.proofs.Taken.{first-yes}
 use Rattle.limits.proofs.Refusals.{first-none}
 use Rattle.array.specs.Arrays.{cellCount, programArguments, driftArguments}
 use Rattle.scrub.proofs.Asked.{program-fits}
-use Rattle.job.specs.Parse.{jobShape, jobLevels, rowLevels, levelCount, driftCount, driftRow, driftColumn, driftLevel, cellsQuestion, contentsQuestion, driftQuestions, jobQuestions, jobRefusal}
-use Rattle.job.proofs.JobQuestions.{frame, frame-yes, contents, contents-yes}
-use Rattle.job.proofs.Joined.{joined-each}
+use Rattle.parse.specs.Parse.{jobShape, jobLevels, rowLevels, levelCount, driftCount, driftRow, driftColumn, driftLevel, cellsQuestion, contentsQuestion, driftQuestions, jobQuestions, jobRefusal}
+use Rattle.parse.proofs.JobQuestions.{frame, frame-yes, contents, contents-yes}
+use Rattle.parse.proofs.Joined.{joined-each}
 
 pub record TakenJob (input : List ℕ) : Type 0 where
   pub taken : Taken (jobShape input)

@@ -11,8 +11,8 @@ use Rattle.parity.specs.declared.Shape.{Shape}
 use Rattle.array.specs.Arrays.{ifTaken}
 use Rattle.scrub.specs.Calls.{State}
 use Rattle.scrub.specs.Run.{Call, clear, start, program, drift, step, run}
-use Rattle.job.specs.Parse.{jobShape, rowLevels, driftCount, driftRow, driftColumn, driftLevel, jobRefusal}
-use Rattle.job.specs.Text.{refusedText, headText, rowsText}
+use Rattle.parse.specs.Parse.{jobShape, rowLevels, driftCount, driftRow, driftColumn, driftLevel, jobRefusal}
+use Rattle.text.specs.Text.{refusedText, headText, rowsText}
 
 -- it clears, programs every row, applies the drifts, runs one cycle
 unfoldable pub jobCalls : List ℕ → List Call

@@ -1,20 +1,18 @@
 // One job: bytes in, text out, on lent buffers.
-mod parse;
-mod print;
 mod run;
 
 use limits::shape::Checked;
-use parse::check_job;
-use parse::shape_of;
-use print::put_head;
-use print::put_refusal;
-use print::put_rows;
+use parse::questions::check_job;
+use parse::questions::shape_of;
 use run::run_calls;
+use text::print::put_head;
+use text::print::put_refusal;
+use text::print::put_rows;
 ghost use mathlib.Core.Path.{_≡_};
 ghost use mathlib.Core.Bool.{cond, _&&_};
 ghost use lib.Dec.{leb, ltb};
 ghost use lib.ListN.{length};
-ghost use Rattle.job.specs.Text.{written};
+ghost use Rattle.text.specs.Text.{written};
 ghost use Rattle.job.specs.Job.{jobText, roomy};
 
 // Whether buffers of these lengths hold the largest job.

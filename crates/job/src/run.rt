@@ -1,8 +1,9 @@
 // The calls of a job: clear, program every row, the drifts, one cycle.
-use super::parse::two_at;
 use array::change::drift;
+use detection::whole::run_cycle;
 use limits::byte::wide;
 use parity::Shape;
+use parse::questions::two_at;
 use scrub::cycle::Cycle;
 ghost use mathlib.Core.Path.{_≡_};
 ghost use mathlib.Core.List.{_∷_, []};
@@ -13,7 +14,7 @@ ghost use Rattle.array.specs.Arrays.{cellCount};
 ghost use Rattle.scrub.specs.Record.{idle};
 ghost use Rattle.scrub.specs.Run.{Call, program, drift as driftCall, runFrom};
 ghost use Rattle.scrub.specs.Methods.{stateOf};
-ghost use Rattle.job.specs.Parse.{jobShape, rowLevels, driftCount, driftStart, driftRow, driftColumn, driftLevel, jobRefusal};
+ghost use Rattle.parse.specs.Parse.{jobShape, rowLevels, driftCount, driftStart, driftRow, driftColumn, driftLevel, jobRefusal};
 ghost use Rattle.job.specs.Job.{jobState};
 
 // Programs every row with its levels.
@@ -66,6 +67,6 @@ pub(crate) fn run_calls(
     Cycle::IDLE.clear(shape, cells, counters, flags);
     program_rows(input, shape, cells);
     drift_cells(input, shape, from, cells);
-    let ended = Cycle::IDLE.run(shape, cells, counters, flags, matches);
+    let ended = run_cycle(Cycle::IDLE, shape, cells, counters, flags, matches);
     ended.cycle
 }

@@ -1,13 +1,14 @@
 // The paper's figures for Example 1 (k = 50), by the library: Table I for q = 8 and q = 16, the ones of the
 // check matrix with more check columns (footnote 6), and the reads of the naive way. What it prints is held to
 // the paper's numbers in the file stdout.
-use acam::matrix::column_at;
-use acam::matrix::matrix_ones;
-use acam::matrix::ones;
+use detection::whole::run_cycle;
 use libc::STDOUT_FILENO;
 use limits::answer::Answer;
 use limits::shape::Checked;
 use limits::shape::check_shape;
+use matrix::columns::column_at;
+use matrix::order::ones;
+use matrix::weight::matrix_ones;
 use parity::Shape;
 use scrub::cycle::Cycle;
 
@@ -37,7 +38,8 @@ fn lookups_made(shape: Shape, columns: usize) -> usize {
     if 64 < columns {
         return 0;
     }
-    let ended = Cycle::IDLE.run(
+    let ended = run_cycle(
+        Cycle::IDLE,
         shape,
         &cells[..columns],
         &mut counters,

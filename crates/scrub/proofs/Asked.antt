@@ -18,8 +18,7 @@ use Rattle.parity.proofs.Taken.{first-yes}
 use Rattle.schedule.proofs.All.{All}
 use Rattle.array.specs.Arrays.{programArguments, programRefusal, driftArguments, driftRefusal}
 use Rattle.scrub.specs.Record.{cycleQuestion}
-use Rattle.scrub.specs.Calls.{State, clearRefusal, startRefusal, stepArguments, stepRefusal}
-use Rattle.scrub.specs.Claims.{Sized}
+use Rattle.scrub.specs.Calls.{Sized, State, clearRefusal, startRefusal, stepArguments, stepRefusal}
 
 -- what is asked first and answered yes
 asked : (qs rs : List Question) → All (λ q. 0 < q .number) qs → firstNo qs ≡ 0 → firstNo (qs ++ rs) ≡ firstNo rs

@@ -15,8 +15,7 @@ use Rattle.limits.specs.declared.shape.Checked.the-variants as checked
 use Rattle.limits.specs.Shapes.{sizesOf, checkedBy}
 use Rattle.limits.proofs.Refusals.{first-rest, first-none, first-found, passed-by, refused-by}
 use Rattle.array.specs.Arrays.{cellCount}
-use Rattle.scrub.specs.Calls.{State}
-use Rattle.scrub.specs.Claims.{Sized}
+use Rattle.scrub.specs.Calls.{Sized, State}
 
 -- 6 on cells, counters and flags
 abbrev pub lengthQuestions : Shape → State → List Question

@@ -1,26 +1,13 @@
--- The theorems on lists of calls, and the laws that the proofs of the functions cite.
-pub mod Elements
-pub mod Rows
-pub mod ZeroRow
+-- The laws on records, questions and steps that the proofs of the functions, here and in the crates above, cite.
 pub mod Asked
 pub mod CycleRecord
 pub mod Steps
-pub mod Course
-pub mod Still
-pub mod Agreement
-pub mod Keeping
-pub mod Detection
-pub mod Shutdown
-pub mod Examples
 pub mod Lookups
-pub mod Columns
 pub mod Spans
 pub mod NextFactor
 pub mod Places
 pub mod Following
-pub mod Pass
 pub mod StepPasses
 pub mod Lent
 pub mod Given
 pub mod MatrixPart
-pub mod WholeCycle

@@ -19,8 +19,8 @@ use Rattle.parity.proofs.Taken.{limits, errors-split}
 use Rattle.parity.proofs.Redundancy.{redundancyClaim}
 use Rattle.parity.proofs.MatrixFacts.{power-weight, matrixClaim}
 use Rattle.parity.proofs.CheckCells.{checkColumns-sized}
-use Rattle.acam.proofs.MatrixOnes.{matrixOnes-weights}
-use Rattle.acam.proofs.Sizes.{columns-high}
+use Rattle.matrix.proofs.MatrixOnes.{matrixOnes-weights}
+use Rattle.matrix.proofs.Sizes.{columns-high}
 use Rattle.schedule.proofs.Sums.{sum-append}
 
 -- columns of one one each

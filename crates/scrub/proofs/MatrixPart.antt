@@ -9,9 +9,9 @@ use Rattle.parity.specs.Shape.{columns}
 use Rattle.parity.specs.Matrix.{matrix}
 use Rattle.parity.specs.Questions.{Taken}
 use Rattle.parity.specs.declared.Shape.{Shape}
-use Rattle.acam.specs.Matrices.{matrixArray}
-use Rattle.acam.proofs.Sizes.{columns-high}
-use Rattle.acam.proofs.MatrixArray.{array-sized, array-matrix}
+use Rattle.matrix.specs.Matrices.{matrixArray}
+use Rattle.matrix.proofs.Sizes.{columns-high}
+use Rattle.matrix.proofs.MatrixArray.{array-sized, array-matrix}
 
 -- the part `&array[..count]`
 pub record Part (s : Shape) (count : ℕ) (array : List ℕ) : Type 0 where

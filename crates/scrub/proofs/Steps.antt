@@ -22,9 +22,8 @@ use Rattle.schedule.proofs.Runs.{lineRun-take}
 use Rattle.schedule.proofs.Digit.{line}
 use Rattle.array.specs.Arrays.{rowAt, ifTaken, matchBytes}
 use Rattle.scrub.specs.Record.{entryAt, cycleAt, isNext}
-use Rattle.scrub.specs.Calls.{State, started, startCall, countedRows, flaggedRows, resetRows, stepMatches, stepped, stepCall}
+use Rattle.scrub.specs.Calls.{Sized, State, started, startCall, countedRows, flaggedRows, resetRows, stepMatches, stepped, stepCall}
 use Rattle.scrub.specs.Run.{start, step, result}
-use Rattle.scrub.specs.Claims.{Sized}
 use Rattle.scrub.proofs.Asked.{start-asked, step-asked}
 use Rattle.scrub.proofs.CycleRecord.{record-count}
 

@@ -1,4 +1,5 @@
 -- Document 01, "Calls on one array": each call as one definition that gives all of its result, taken or refused.
+use mathlib.Core.Path.{_≡_}
 use mathlib.Core.List.{List, [], _∷_, _++_}
 use Prim.Native.Nat.{ℕ, suc}
 use lib.ListN.{length, getD, replicate}
@@ -17,6 +18,12 @@ pub record State : Type 0 where
   pub counters : List ℕ
   pub flags : List ℕ
   pub cycle : Cycle
+
+-- a state whose buffers have their lengths
+pub record Sized (s : Shape) (st : State) : Type 0 where
+  pub cells : length (st .cells) ≡ cellCount s
+  pub counters : length (st .counters) ≡ s .rows
+  pub flags : length (st .flags) ≡ s .rows
 
 -- all that a call gives: the number of the first no, 0 where it is taken; the count that it answers; the buffer for match bytes, where
 -- it has one; and the state

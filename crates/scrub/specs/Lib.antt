@@ -1,9 +1,6 @@
--- What a reader has to believe of the detection cycle: its record, the six calls, lists of calls, document 01's log, and the claim of demand 3.
+-- What a reader has to believe of the cycle: its record, the six calls, lists of calls, and what the methods give.
 pub mod Record
 pub mod Calls
 pub mod Run
-pub mod Log
-pub mod Claims
-pub mod Examples
 pub mod Places
 pub mod Methods

@@ -1,41 +1,39 @@
-// The calls that have the cycle record: clear, program, start and step, and one whole cycle. A refused call
+// The calls that have the cycle record: clear, program, start and step. A refused call
 // hands the record back as it was given and leaves every buffer as it was.
 use super::cycle::Changed;
 use super::cycle::Cycle;
-use super::passes::count_rows;
-use super::passes::flag_rows;
-use super::passes::match_column;
 use super::place::Located;
 use super::place::Standing;
 use super::place::locate;
-use acam::matrix::columns_of;
 use array::cells::check_cells;
 use array::change::write_row;
 use limits::answer::Outcome;
 use limits::byte::fill;
 use limits::shape::Checked;
 use limits::shape::check_shape;
+use matrix::columns::columns_of;
 use parity::Shape;
+use passes::factors::input_of;
+use passes::rows::count_rows;
+use passes::rows::flag_rows;
+use passes::rows::match_column;
 ghost use mathlib.Core.Path.{_≡_};
 ghost use mathlib.Core.Bool.{true, _&&_};
 ghost use mathlib.Core.List.{[], _∷_, _++_};
-ghost use Prim.Native.Nat.{suc, _-_, _*_, _^_, _<_};
+ghost use Prim.Native.Nat.{suc, _<_};
 ghost use lib.Dec.{eqb};
-ghost use lib.ListN.{length, replicate};
+ghost use lib.ListN.{length};
 ghost use Rattle.parity.specs.Shape.{columns as columnsOf};
-ghost use Rattle.parity.specs.Matrix.{lookups};
 ghost use Rattle.parity.specs.Questions.{firstNo, shapeQuestions, lengthQuestion, Taken};
-ghost use Rattle.schedule.specs.Schedule.{testVector};
 ghost use Rattle.limits.specs.Shapes.{checkedBy, sizesOf};
-ghost use Rattle.array.specs.Arrays.{cellCount, matchBytes};
-ghost use Rattle.scrub.specs.Record.{entryAt, cycleAt, isNext};
+ghost use Rattle.array.specs.Arrays.{cellCount};
+ghost use Rattle.scrub.specs.Record.{isNext};
 ghost use Rattle.scrub.specs.Places.{standingOf};
 ghost use Rattle.scrub.specs.Calls.{clearCall, programCall, startCall, stepMatches, stepped, stepCall};
-ghost use Rattle.scrub.specs.Run.{step, runFrom};
-ghost use Rattle.scrub.specs.Methods.{stateOf, changed, refusedWith, doneWith, cycleCall};
+ghost use Rattle.scrub.specs.Methods.{stateOf, changed, refusedWith, doneWith};
 
 // A refusal: the record as it was given.
-fn refused(cycle: Cycle, number: u8) -> Changed
+pub fn refused(cycle: Cycle, number: u8) -> Changed
     ensures { λ r. ⌜ r ≡ refusedWith cycle number ⌝ }
 {
     Changed {
@@ -44,27 +42,13 @@ fn refused(cycle: Cycle, number: u8) -> Changed
     }
 }
 
-fn done(cycle: Cycle) -> Changed
+pub fn done(cycle: Cycle) -> Changed
     ensures { λ r. ⌜ r ≡ doneWith cycle ⌝ }
 {
     Changed {
         outcome: Outcome::Done,
         cycle,
     }
-}
-
-// a × ρ^s, which is below q and so a byte.
-fn input_of(radix: usize, factor: usize, digit: usize) -> u8
-    requires { ⌜ (0 < radix) × (factor * radix ^ digit < 256) ⌝ }
-    ensures { λ r. ⌜ r ≡ factor * radix ^ digit ⌝ }
-{
-    let mut input = factor;
-    let mut s: usize = 0;
-    while s < digit {
-        input = input * radix;
-        s += 1;
-    }
-    input as u8
 }
 
 // Whether the lookup of a factor is the last of its check row and digit.
@@ -110,7 +94,7 @@ fn look_and_count(
 }
 
 // Questions 1 to 5, and 6 on cells, counters and flags.
-fn check_lent(shape: Shape, cells: usize, counters: usize, flags: usize) -> Checked
+pub fn check_lent(shape: Shape, cells: usize, counters: usize, flags: usize) -> Checked
     ensures { λ r. ⌜ r ≡ checkedBy (firstNo (shapeQuestions shape ++ lengthQuestion cells (cellCount shape) ∷ lengthQuestion counters (shape .rows) ∷ lengthQuestion flags (shape .rows) ∷ [])) (sizesOf shape) ⌝ }
 {
     match check_cells(shape, cells) {
@@ -126,28 +110,6 @@ fn check_lent(shape: Shape, cells: usize, counters: usize, flags: usize) -> Chec
             Checked::Taken(sizes)
         }
     }
-}
-
-// The steps of a cycle that is just started.
-fn run_open(
-    cycle: Cycle,
-    shape: Shape,
-    cells: &[u8],
-    counters: &mut [u8],
-    flags: &mut [u8],
-    matches: &mut [u8],
-) -> Cycle
-    requires { ⌜ Taken shape × (cycle ≡ cycleAt shape 0) ⌝ }
-    requires { ⌜ (length (now cells) ≡ cellCount shape) × (length (now counters) ≡ shape .rows) × (length (now flags) ≡ shape .rows) × (length (now matches) ≡ shape .rows) ⌝ }
-    ensures run { λ r. ⌜ stateOf (now (cells .entry)) (now (counters .exit)) (now (flags .exit)) r ≡ runFrom shape (stateOf (now (cells .entry)) (now (counters .entry)) (now (flags .entry)) cycle) (replicate (lookups shape) (step (now (matches .entry)))) ⌝ }
-    ensures matched { λ r. ⌜ now (matches .exit) ≡ matchBytes shape (testVector shape (entryAt shape (lookups shape - 1))) (now (cells .entry)) ⌝ }
-{
-    let mut now = cycle;
-    while now.is_open() {
-        let stepped = now.step(shape, cells, counters, flags, matches);
-        now = stepped.cycle;
-    }
-    now
 }
 
 impl Cycle {
@@ -255,33 +217,6 @@ impl Cycle {
                         done(next)
                     }
                 }
-            }
-        }
-    }
-
-    // One whole cycle: a start and all its steps.
-    pub fn run(
-        self,
-        shape: Shape,
-        cells: &[u8],
-        counters: &mut [u8],
-        flags: &mut [u8],
-        matches: &mut [u8],
-    ) -> Changed
-        ensures answered { λ r. ⌜ r ≡ changed (cycleCall shape (stateOf (now (cells .entry)) (now (counters .entry)) (now (flags .entry)) self) (now (matches .entry))) ⌝ }
-        ensures matched { λ r. ⌜ now (matches .exit) ≡ cycleCall shape (stateOf (now (cells .entry)) (now (counters .entry)) (now (flags .entry)) self) (now (matches .entry)) .matches ⌝ }
-        ensures counted { λ r. ⌜ now (counters .exit) ≡ cycleCall shape (stateOf (now (cells .entry)) (now (counters .entry)) (now (flags .entry)) self) (now (matches .entry)) .state .counters ⌝ }
-        ensures flagged { λ r. ⌜ now (flags .exit) ≡ cycleCall shape (stateOf (now (cells .entry)) (now (counters .entry)) (now (flags .entry)) self) (now (matches .entry)) .state .flags ⌝ }
-    {
-        match check_lent(shape, cells.len(), counters.len(), flags.len()) {
-            Checked::Refused(number) => refused(self, number),
-            Checked::Taken(_) => {
-                let rows = shape.rows;
-                if matches.len() != rows {
-                    return refused(self, 6);
-                }
-                let started = self.start(shape, counters, flags);
-                done(run_open(started.cycle, shape, cells, counters, flags, matches))
             }
         }
     }

@@ -14,10 +14,10 @@ use Rattle.parity.proofs.Taken.{limits}
 use Rattle.limits.specs.Shapes.{sizesOf}
 use Rattle.limits.proofs.Refusals.{passed-by, refused-by}
 use Rattle.array.specs.Arrays.{cellCount}
-use Rattle.job.specs.Parse.{jobShape, jobRefusal}
-use Rattle.job.specs.Text.{headText, rowsText}
+use Rattle.parse.specs.Parse.{jobShape, jobRefusal}
+use Rattle.text.specs.Text.{headText, rowsText}
 use Rattle.job.specs.Job.{jobState, reportText, jobText, roomy}
-use Rattle.job.proofs.Written.{Wrote, wrote-append}
+use Rattle.text.proofs.Written.{Wrote, wrote-append}
 use Rattle.job.proofs.TakenJob.{TakenJob, takenJob}
 use Rattle.job.proofs.JobText.{refused-text, report-text, Room, room, gives-none, gives-text}
 use Rattle.job.proofs.job.Statement.{statement}

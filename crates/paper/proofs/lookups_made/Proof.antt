@@ -10,7 +10,7 @@ use Rattle.paper.proofs.lookups_made.Statement.{statement}
 use Rattle.paper.proofs.lookups_made.Tie as tie
 use Rattle.paper.proofs.lookups_made.Reads as reads
 use Rattle.paper.proofs.lookups_made.Lts as lts
-use Rattle.scrub.proofs.cycle.Cycle.run.Reads as run-reads
+use Rattle.detection.proofs.whole.run_cycle.Reads as run-reads
 
 -- the cells
 abbrev zeros : List ℕ
@@ -22,20 +22,20 @@ returns c = search needs
 array-share-prefix-cells : tie.Need-array-share-prefix-cells
 array-share-prefix-cells c = search needs
 
-slice-aggregate-run : tie.Need-slice-aggregate-run
-slice-aggregate-run c = sym (length-take-le (c .before .before .args .columns) zeros (omega arith))
+slice-aggregate-run-cycle : tie.Need-slice-aggregate-run-cycle
+slice-aggregate-run-cycle c = sym (length-take-le (c .before .before .args .columns) zeros (omega arith))
 
-slice-aggregate-run-2 : tie.Need-slice-aggregate-run-2
-slice-aggregate-run-2 c = search needs
+slice-aggregate-run-cycle-2 : tie.Need-slice-aggregate-run-cycle-2
+slice-aggregate-run-cycle-2 c = search needs
 
-slice-aggregate-run-3 : tie.Need-slice-aggregate-run-3
-slice-aggregate-run-3 c = search needs
+slice-aggregate-run-cycle-3 : tie.Need-slice-aggregate-run-cycle-3
+slice-aggregate-run-cycle-3 c = search needs
 
-slice-aggregate-run-4 : tie.Need-slice-aggregate-run-4
-slice-aggregate-run-4 c = search needs
+slice-aggregate-run-cycle-4 : tie.Need-slice-aggregate-run-cycle-4
+slice-aggregate-run-cycle-4 c = search needs
 
-run-requires : tie.Need-run-requires
-run-requires c κs = search needs
+run-cycle-requires : tie.Need-run-cycle-requires
+run-cycle-requires c κs = search needs
 
 returns-2 : tie.Need-returns-2
 returns-2 c = search needs
@@ -46,9 +46,9 @@ lookups-made-spec =
     (tie.spec
     returns
     array-share-prefix-cells
-    slice-aggregate-run
-    slice-aggregate-run-2
-    slice-aggregate-run-3
-    slice-aggregate-run-4
-    run-requires
+    slice-aggregate-run-cycle
+    slice-aggregate-run-cycle-2
+    slice-aggregate-run-cycle-3
+    slice-aggregate-run-cycle-4
+    run-cycle-requires
     returns-2)

@@ -6,8 +6,8 @@ use Rattle.paper.proofs.rule_ones.Statement.{statement}
 use Rattle.paper.proofs.rule_ones.Tie as tie
 use Rattle.paper.proofs.rule_ones.Reads as reads
 use Rattle.paper.proofs.rule_ones.Lts as lts
-use Rattle.acam.proofs.matrix.column_at.Reads as column-at-reads
-use Rattle.acam.proofs.matrix.ones.Reads as ones-reads
+use Rattle.matrix.proofs.columns.column_at.Reads as column-at-reads
+use Rattle.matrix.proofs.order.ones.Reads as ones-reads
 use Rattle.paper.proofs.number.Reads as number-reads
 
 abbrev Inv-loop : tie.InvT-loop

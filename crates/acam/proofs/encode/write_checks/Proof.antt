@@ -16,7 +16,7 @@ use Rattle.parity.proofs.Sums.{checkSum}
 use Rattle.parity.proofs.Taken.{limits}
 use Rattle.parity.proofs.Redundancy.{redundancyClaim}
 use Rattle.acam.proofs.Tail.{tail-is, tail-put}
-use Rattle.acam.proofs.MatrixArray.{array-rules}
+use Rattle.matrix.proofs.MatrixArray.{array-rules}
 use Rattle.acam.proofs.DigitLoop.{power-high, power-next, power-fits, sums-ready, sum-at}
 use Rattle.acam.proofs.DigitCells.{missing, cellAt, no-digits, cell-below, next-digit, all-digits}
 use Rattle.acam.proofs.encode.write_checks.Statement.{statement}

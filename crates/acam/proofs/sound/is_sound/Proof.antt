@@ -23,9 +23,9 @@ use Rattle.parity.proofs.Taken.{limits}
 use Rattle.parity.proofs.Redundancy.{redundancyClaim}
 use Rattle.parity.proofs.MatrixFacts.{matrixClaim}
 use Rattle.parity.proofs.CodewordTest.{codeword-test, codeword-passes}
-use Rattle.acam.specs.Matrices.{matrixArray}
+use Rattle.matrix.specs.Matrices.{matrixArray}
 use Rattle.acam.proofs.DigitLoop.{power-next, power-fits, sums-ready, sum-at}
-use Rattle.acam.proofs.MatrixArray.{array-matrix}
+use Rattle.matrix.proofs.MatrixArray.{array-matrix}
 use Rattle.acam.proofs.sound.is_sound.Statement.{statement}
 use Rattle.acam.proofs.sound.is_sound.Tie as tie
 

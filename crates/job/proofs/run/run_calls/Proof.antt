@@ -6,7 +6,7 @@ use borrow.Author.Needs.{needs}
 use Rattle.parity.specs.Questions.{Taken}
 use Rattle.scrub.specs.Record.{idle}
 use Rattle.scrub.specs.Methods.{stateOf}
-use Rattle.job.proofs.Sizes.{levels-fit}
+use Rattle.parse.proofs.Sizes.{levels-fit}
 use Rattle.job.proofs.TakenJob.{takenJob}
 use Rattle.job.proofs.JobCalls.{cellsAfter, programs, drifts, job-ended}
 use Rattle.job.proofs.run.run_calls.Statement.{statement}
@@ -44,8 +44,8 @@ drift-cells-requires c κs =
       ap (λ s. 13 + s .rows * s .width) shaped ∙ omega arith,
     )
 
-run-requires : tie.Need-run-requires
-run-requires c κs = search needs
+run-cycle-requires : tie.Need-run-cycle-requires
+run-cycle-requires c κs = search needs
 
 same-length : tie.Need-same-length
 same-length c = search needs
@@ -80,7 +80,7 @@ returns c =
     (cleared .clear .ensures .1 .1 .0)
     (cleared .clear .ensures .1 .1 .1)
     in
-    (ap (λ r. r .cycle) (ran .run .ensures .0) ∙ ap (λ x. x .cycle) ended, ran .run .ensures .1 .1 .1 ∙ ap (λ x. x .flags) ended)
+    (ap (λ r. r .cycle) (ran .run-cycle .ensures .0) ∙ ap (λ x. x .cycle) ended, ran .run-cycle .ensures .1 .1 .1 ∙ ap (λ x. x .flags) ended)
 
 pub run-calls-spec : {M : Type 1} → statement M
 run-calls-spec =
@@ -91,7 +91,7 @@ run-calls-spec =
     clear-requires
     program-rows-requires
     drift-cells-requires
-    run-requires
+    run-cycle-requires
     same-length
     same-length-2
     same-length-3

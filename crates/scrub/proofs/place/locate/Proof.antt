@@ -19,15 +19,16 @@ use Rattle.parity.proofs.Sums.{bit-below}
 use Rattle.parity.proofs.Taken.{limits}
 use Rattle.parity.proofs.Redundancy.{redundancyClaim}
 use Rattle.parity.proofs.MatrixFacts.{matrixClaim}
-use Rattle.acam.proofs.Sizes.{columns-high}
+use Rattle.matrix.proofs.Sizes.{columns-high}
 use Rattle.schedule.specs.Index.{Place, rowSize, rank, span, placeIndex}
 use Rattle.scrub.specs.Record.{isOpen, isNext}
-use Rattle.scrub.specs.Places.{surveyOf, standingOf, locatedAt}
+use Rattle.passes.specs.Survey.{surveyOf}
+use Rattle.scrub.specs.Places.{standingOf, locatedAt}
 use Rattle.scrub.specs.declared.cycle.Cycle.{Cycle}
-use Rattle.scrub.specs.declared.place.Survey.{Survey}
+use Rattle.passes.specs.declared.columns.Survey.{Survey}
 use Rattle.scrub.specs.declared.place.Standing.{Standing}
 use Rattle.scrub.specs.declared.place.Located.the-variants.{At, Elsewhere}
-use Rattle.scrub.proofs.Columns.{places-high, rows-high, bit-tested}
+use Rattle.passes.proofs.CheckRows.{places-high, rows-high, bit-tested}
 use Rattle.scrub.proofs.CycleRecord.{next-record}
 use Rattle.scrub.proofs.Lookups.{lookups-high}
 use Rattle.scrub.proofs.Spans.{span-first, span-next, span-high, span-less}

@@ -13,12 +13,12 @@ use Rattle.parity.specs.declared.Shape.{Shape}
 use Rattle.parity.proofs.Taken.{limits}
 use Rattle.parity.proofs.Redundancy.{redundancyClaim}
 use Rattle.parity.proofs.MatrixFacts.{matrixClaim}
-use Rattle.acam.proofs.Sizes.{columns-high}
+use Rattle.matrix.proofs.Sizes.{columns-high}
 use Rattle.schedule.specs.Index.{Place, span, rowSize, rank}
 use Rattle.scrub.specs.Record.{openRecord, completeAt, cycleAt, isNext}
 use Rattle.scrub.specs.declared.cycle.Cycle.{Cycle}
 use Rattle.scrub.specs.declared.cycle.Phase.the-variants.{Open}
-use Rattle.scrub.proofs.Columns.{places-high, heldFrom}
+use Rattle.passes.proofs.CheckRows.{places-high, heldFrom}
 use Rattle.scrub.proofs.CycleRecord.{next-record}
 use Rattle.scrub.proofs.NextFactor.{nextFactor}
 use Rattle.scrub.proofs.Spans.{span-high}

@@ -1,0 +1,96 @@
+-- A start and steps: the record and the lines at each count, and what question 9 takes. Assumes nothing.
+use mathlib.Core.Path.{_≡_, refl, sym, ap, _∙_}
+use mathlib.Core.List.{List, [], _∷_}
+use Prim.Native.Nat.{ℕ, zero, suc, _+_, _≤_, _<_}
+use native.Mathlib.Nat.{add-zero, zero-add, le-of-eq}
+use native.Mathlib.Omega.{arith}
+use lib.ListN.{length, replicate, length-replicate}
+use borrow.Author.Tests.{eq-eqb}
+use Rattle.parity.specs.Matrix.{lookups}
+use Rattle.parity.specs.Questions.{Taken}
+use Rattle.parity.specs.declared.Shape.{Shape}
+use Rattle.array.specs.Arrays.{cellCount}
+use Rattle.scrub.specs.Record.{cycleAt, isNext}
+use Rattle.scrub.specs.Calls.{Sized, State, fresh, started, stepped}
+use Rattle.scrub.specs.Run.{start, step, result, runFrom, run}
+use Rattle.detection.specs.Claims.{stepsWith, Buffers, CourseClaim, QuestionNineClaim}
+use Rattle.scrub.proofs.CycleRecord.{record-count, record-open, record-complete, next-open, next-record}
+use Rattle.scrub.proofs.Steps.{Lines, started-lines, started-sized, start-state, stepped-lines, stepped-cycle, stepped-sized, step-state}
+
+-- a start and c taken steps have been made on these cells
+pub record Underway (s : Shape) (cells : List ℕ) (c : ℕ) (st : State) : Type 0 where
+  pub still : st .cells ≡ cells
+  pub sized : Sized s st
+  pub cycle : st .cycle ≡ cycleAt s c
+  pub lines : Lines s st c
+
+module _ (s : Shape) (t : Taken s) where
+  underway-start : (st : State) → Sized s st → Underway s (st .cells) 0 (result s st start .state)
+  unfolding started
+  underway-start st z =
+      rw (start-state s st z t) (record { still = refl; sized = started-sized s st z; cycle = refl; lines = started-lines s st })
+
+  underway-step :
+      (cells : List ℕ) (c : ℕ) (st : State) (matches : List ℕ) → length matches ≡ s .rows → c < lookups s → Underway s cells c st
+      → Underway s cells (suc c) (result s st (step matches) .state)
+  unfolding stepped
+  underway-step cells c st matches l h u =
+      rw (step-state s st (u .sized) t matches, eq-eqb _ _ l, ap (isNext s) (u .cycle) ∙ next-open s t c h)
+      (record {
+        still = u .still;
+        sized = stepped-sized s st (u .sized);
+        cycle = stepped-cycle s st c (u .cycle);
+        lines = stepped-lines s st t c h (u .cycle) (u .lines);
+      })
+
+  underway-steps :
+      (cells : List ℕ) (buffers : List (List ℕ)) (c : ℕ) (st : State) → Buffers s buffers → c + length buffers ≤ lookups s → Underway s cells c st
+      → Underway s cells (c + length buffers) (runFrom s st (stepsWith buffers))
+  underway-steps cells [] c st sized h u = rw add-zero u
+  underway-steps cells (matches ∷ buffers) c st sized h u =
+      let next : c + suc (length buffers) ≡ suc c + length buffers = omega arith in
+      rw next
+      (underway-steps cells buffers (suc c) (result s st (step matches) .state) (sized .1) (omega arith)
+      (underway-step cells c st matches (sized .0) (omega arith) u))
+
+  pub underway :
+      (st : State) → Sized s st → (buffers : List (List ℕ)) → Buffers s buffers → length buffers ≤ lookups s
+      → Underway s (st .cells) (length buffers) (runFrom s st (start ∷ stepsWith buffers))
+  underway st z buffers sized h =
+      rw zero-add at (underway-steps (st .cells) buffers 0 (result s st start .state) sized (omega arith) (underway-start st z))
+
+pub courseClaim : CourseClaim
+courseClaim s t st z buffers sized h = (
+  underway s t st z buffers sized h .cycle,
+  record-count s (length buffers),
+  λ lt. ap (λ r. r .phase) (record-open s t (length buffers) lt),
+  λ e. ap (λ r. r .phase) (record-complete s t (length buffers) (le-of-eq (sym e))),
+)
+
+pub fresh-sized : (s : Shape) → Sized s (fresh s)
+unfolding fresh
+fresh-sized s =
+    record { cells = length-replicate (cellCount s) 0; counters = length-replicate (s .rows) 0; flags = length-replicate (s .rows) 0 }
+
+-- c buffers of zeros
+zero-buffers : (s : Shape) (c : ℕ) → Buffers s (replicate c (replicate (s .rows) 0))
+zero-buffers s zero = tt
+zero-buffers s (suc c) = (length-replicate (s .rows) 0, zero-buffers s c)
+
+pub questionNineClaim : QuestionNineClaim
+unfolding run
+questionNineClaim s t cycle = (
+  λ e.
+      let next = next-record s t cycle e in
+      let buffers : List (List ℕ) = replicate (cycle .count) (replicate (s .rows) 0) in
+      let sized : Buffers s buffers = zero-buffers s (cycle .count) in
+      let made : length buffers ≡ cycle .count = length-replicate (cycle .count) _ in
+      let h : length buffers < lookups s = omega (arith, next .0) in
+      (buffers, sized, h, next .1 ∙ ap (cycleAt s) (sym made) ∙ sym (left buffers sized h)),
+  λ (buffers, sized, h, e). ap (isNext s) (e ∙ left buffers sized h) ∙ next-open s t (length buffers) h,
+)
+  where
+    left :
+        (buffers : List (List ℕ)) → Buffers s buffers → length buffers < lookups s
+        → runFrom s (fresh s) (start ∷ stepsWith buffers) .cycle ≡ cycleAt s (length buffers)
+    left buffers sized h = underway s t (fresh s) (fresh-sized s) buffers sized (omega arith) .cycle

@@ -1,0 +1,12 @@
+-- The theorems on lists of calls, and the laws behind them.
+pub mod Elements
+pub mod Rows
+pub mod ZeroRow
+pub mod Course
+pub mod Still
+pub mod Agreement
+pub mod Keeping
+pub mod Detection
+pub mod Shutdown
+pub mod Examples
+pub mod WholeCycle

@@ -1,0 +1,108 @@
+-- Demand 3 as one type, and the theorems beside it; the proofs are in proofs/.
+use mathlib.Core.Path.{_≡_}
+use mathlib.Core.Logic.{_↔_}
+use mathlib.Core.Bool.{true, false, cond}
+use mathlib.Core.List.{List, [], _∷_, _++_, map}
+use Prim.Native.Nat.{ℕ, _≤_, _<_}
+use lib.Dec.{eqb}
+use lib.ListN.{length, getD, take, replicate}
+use Rattle.parity.specs.Lists.{tabulate, joined, differences}
+use Rattle.parity.specs.Shape.{levels}
+use Rattle.parity.specs.Matrix.{lookups}
+use Rattle.parity.specs.Codeword.{isCodeword}
+use Rattle.parity.specs.Questions.{Taken}
+use Rattle.parity.specs.declared.Shape.{Shape}
+use Rattle.array.specs.Arrays.{cellCount, rowAt}
+use Rattle.scrub.specs.Record.{cycleAt, isNext}
+use Rattle.scrub.specs.Calls.{State, Sized}
+use Rattle.scrub.specs.Run.{Call, start, program, step, runFrom, run}
+use Rattle.detection.specs.Log.{Course, none, open-cycle, ended, log}
+use Rattle.scrub.specs.declared.cycle.Cycle.{Cycle}
+use Rattle.scrub.specs.declared.cycle.Phase.{Phase}
+use Rattle.scrub.specs.declared.cycle.Phase.the-variants.{Idle, Open, Complete}
+
+-- the cells of rows, one row after the other
+abbrev pub flat : List (List ℕ) → List ℕ
+flat [] = []
+flat (row ∷ rows) = row ++ flat rows
+
+-- the record's phase that goes with the log's cycle
+abbrev pub phaseOf : Course → Phase
+phaseOf none = Idle
+phaseOf open-cycle = Open
+phaseOf ended = Complete
+
+-- flag 0 where the two forms of a row are equal, and 1 where they are not
+pub record RightFlag (written standing : List ℕ) (flag : ℕ) : Type 0 where
+  pub unchanged : written ≡ standing → flag ≡ 0
+  pub changed : (written ≡ standing → ⊥) → flag ≡ 1
+
+-- After a list of calls the cells are the rows as they stand, and the record is idle, open or complete as the log's cycle is none, open or
+-- ended, with the log's count. Where the last call is a step that ends a cycle with the mark off, each row whose two forms differ in at most
+-- τ cells has flag 0 if they are equal and 1 if not.
+pub record Detects (s : Shape) (calls : List Call) : Type 0 where
+  pub cells : run s calls .cells ≡ flat (log s calls .standing)
+  pub phase : run s calls .cycle .phase ≡ phaseOf (log s calls .course)
+  pub count : run s calls .cycle .count ≡ log s calls .count
+  pub verdict :
+      (before : List Call) (matches : List ℕ) → calls ≡ before ++ step matches ∷ []
+      → log s before .course ≡ open-cycle → log s calls .course ≡ ended → log s calls .mark ≡ false
+      → (i : ℕ) → i < s .rows
+      → differences (getD (log s calls .written) i []) (getD (log s calls .standing) i []) ≤ s .errors
+      → RightFlag (getD (log s calls .written) i []) (getD (log s calls .standing) i []) (getD (run s calls .flags) i 0)
+
+-- Demand 3: every shape taken, every list of calls.
+abbrev pub DetectionClaim : Type 0
+DetectionClaim = (s : Shape) → Taken s → (calls : List Call) → Detects s calls
+
+-- a step with each of the buffers for match bytes
+abbrev pub stepsWith : List (List ℕ) → List Call
+stepsWith buffers = map step buffers
+
+-- each buffer has m bytes
+abbrev pub Buffers : Shape → List (List ℕ) → Type 0
+Buffers s [] = Unit {0}
+Buffers s (buffer ∷ buffers) = (length buffer ≡ s .rows) × Buffers s buffers
+
+-- A cycle is complete exactly at its accepted step (q − 1) × W: a start and c accepted steps leave the record of c, open below that number
+-- and complete at it, whatever stood in counters, flags, record and buffers before, and for every number of rows.
+abbrev pub CourseClaim : Type 0
+CourseClaim =
+    (s : Shape) → Taken s → (st : State) → Sized s st → (buffers : List (List ℕ)) → Buffers s buffers → length buffers ≤ lookups s
+    → (runFrom s st (start ∷ stepsWith buffers) .cycle ≡ cycleAt s (length buffers))
+    × (cycleAt s (length buffers) .count ≡ length buffers)
+    × ((length buffers < lookups s) → cycleAt s (length buffers) .phase ≡ Open)
+    × ((length buffers ≡ lookups s) → cycleAt s (length buffers) .phase ≡ Complete)
+
+-- Question 9 asks whether the record is one that a start and accepted steps on this shape leave, with a vector still to come.
+abbrev pub QuestionNineClaim : Type 0
+QuestionNineClaim =
+    (s : Shape) → Taken s → (cycle : Cycle)
+    → (isNext s cycle ≡ true)
+    ↔ ((buffers : List (List ℕ)) × Buffers s buffers × (length buffers < lookups s) × (cycle ≡ run s (start ∷ stepsWith buffers) .cycle))
+
+-- On an array that stays still, with all cells below q, a start and a whole cycle leave flags that say exactly which rows are not sound,
+-- whatever counters and flags were before; also beyond τ changed cells.
+abbrev pub StillClaim : Type 0
+StillClaim =
+    (s : Shape) → Taken s → (st : State) → Sized s st → ((i : ℕ) → i < cellCount s → getD (st .cells) i 0 < levels s)
+    → (buffers : List (List ℕ)) → Buffers s buffers → length buffers ≡ lookups s
+    → runFrom s st (start ∷ stepsWith buffers) .flags ≡ tabulate (s .rows) (λ i. cond (isCodeword s (rowAt s (st .cells) i)) 0 1)
+
+-- every flagged row programmed again from what was last written
+abbrev pub repair : Shape → List ℕ → List (List ℕ) → List Call
+repair s flags written = joined (s .rows) (λ i. cond (eqb (getD flags i 0) 0) [] (program i (take (s .width) (getD written i [])) ∷ []))
+
+-- December's shutdown: after a list whose log is ended with the mark off, and after which every row is within τ cells of its
+-- written form, every flagged row is programmed again and a whole cycle is run. Then every row stands as it was written, and no row is flagged.
+pub record Shutdown (s : Shape) (calls : List Call) (buffers : List (List ℕ)) : Type 0 where
+  pub restored :
+      (i : ℕ) → i < s .rows
+      → getD (log s (calls ++ repair s (run s calls .flags) (log s calls .written)) .standing) i [] ≡ getD (log s calls .written) i []
+  pub quiet : run s (calls ++ repair s (run s calls .flags) (log s calls .written) ++ start ∷ stepsWith buffers) .flags ≡ replicate (s .rows) 0
+
+abbrev pub ShutdownClaim : Type 0
+ShutdownClaim =
+    (s : Shape) → Taken s → (calls : List Call) → log s calls .course ≡ ended → log s calls .mark ≡ false
+    → ((i : ℕ) → i < s .rows → differences (getD (log s calls .written) i []) (getD (log s calls .standing) i []) ≤ s .errors)
+    → (buffers : List (List ℕ)) → Buffers s buffers → length buffers ≡ lookups s → Shutdown s calls buffers

@@ -1,0 +1,98 @@
+-- Document 01's log of a list of calls. It is fed the shape and the calls alone: of the library it names the shape's sizes, the questions on
+-- arguments, the encoded row and the length of a cycle.
+use mathlib.Core.Bool.{Bool, true, false, cond}
+use mathlib.Core.List.{List, [], _∷_}
+use Prim.Native.Nat.{ℕ, suc}
+use lib.Dec.{eqb}
+use lib.ListN.{getD, set, replicate}
+use Rattle.parity.specs.Shape.{columns}
+use Rattle.parity.specs.Matrix.{lookups}
+use Rattle.parity.specs.Codeword.{encode}
+use Rattle.parity.specs.Questions.{firstNo}
+use Rattle.parity.specs.declared.Shape.{Shape}
+use Rattle.array.specs.Arrays.{programArguments, driftArguments}
+use Rattle.scrub.specs.Calls.{stepArguments}
+use Rattle.scrub.specs.Run.{Call, clear, start, program, drift, lookup, step}
+
+-- the log's cycle: none, open or ended
+pub data Course : Type 0 where
+  none open-cycle ended : Course
+
+-- Each row in two forms, as written and as it stands; a cycle; a step count; a drift mark.
+pub record Log : Type 0 where
+  pub written : List (List ℕ)
+  pub standing : List (List ℕ)
+  pub course : Course
+  pub count : ℕ
+  pub mark : Bool
+
+-- at first, and after a clear: all levels 0, cycle none, count 0, mark off
+unfoldable pub blank : Shape → Log
+blank s =
+    record {
+      written = replicate (s .rows) (replicate (columns s) 0);
+      standing = replicate (s .rows) (replicate (columns s) 0);
+      course = none;
+      count = 0;
+      mark = false;
+    }
+
+-- a program that is taken: both forms of the row become the k levels and then the check cells that make them sound; cycle none, count 0
+abbrev pub logProgram : Shape → ℕ → List ℕ → Log → Log
+logProgram s row given l =
+    record {
+      written = set (l .written) row (encode s given);
+      standing = set (l .standing) row (encode s given);
+      course = none;
+      count = 0;
+      mark = l .mark;
+    }
+
+-- a drift that is taken: the cell of the row as it stands takes the level; mark on
+abbrev pub logDrift : ℕ → ℕ → ℕ → Log → Log
+logDrift row column level l =
+    record {
+      written = l .written;
+      standing = set (l .standing) row (set (getD (l .standing) row []) column level);
+      course = l .course;
+      count = l .count;
+      mark = true;
+    }
+
+-- start: cycle open, count 0, mark off
+abbrev pub logStart : Log → Log
+logStart l = record { written = l .written; standing = l .standing; course = open-cycle; count = 0; mark = false }
+
+-- a step that is taken: 1 is added to the count; at (q − 1) × W the cycle is ended
+abbrev pub logStep : Shape → Log → Log
+logStep s l =
+    record {
+      written = l .written;
+      standing = l .standing;
+      course = cond (eqb (suc (l .count)) (lookups s)) ended open-cycle;
+      count = suc (l .count);
+      mark = l .mark;
+    }
+
+-- a step while the cycle isn't open is refused
+abbrev pub whileOpen : Course → Log → Log → Log
+whileOpen none taken refused = refused
+whileOpen open-cycle taken refused = taken
+whileOpen ended taken refused = refused
+
+-- the log after a call; a call whose arguments fail a question is refused: no change
+abbrev pub logCall : Shape → Log → Call → Log
+logCall s l clear = blank s
+logCall s l start = logStart l
+logCall s l (program row given) = cond (eqb (firstNo (programArguments s row given)) 0) (logProgram s row given l) l
+logCall s l (drift row column level) = cond (eqb (firstNo (driftArguments s row column level)) 0) (logDrift row column level l) l
+logCall s l (lookup inputs matches) = l
+logCall s l (step matches) = cond (eqb (firstNo (stepArguments s matches)) 0) (whileOpen (l .course) (logStep s l) l) l
+
+abbrev pub logFrom : Shape → Log → List Call → Log
+logFrom s l [] = l
+logFrom s l (c ∷ cs) = logFrom s (logCall s l c) cs
+
+-- the log of a list of calls
+unfoldable pub log : Shape → List Call → Log
+log s calls = logFrom s (blank s) calls

@@ -1,0 +1,2 @@
+-- The law that several functions' proofs cite.
+pub mod RowBytes

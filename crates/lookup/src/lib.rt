@@ -1,0 +1,3 @@
+// Lookups on an array: the match lines of all rows, and the first row that matches.
+pub mod first;
+pub mod task;

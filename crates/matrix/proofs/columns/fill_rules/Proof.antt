@@ -1,0 +1,48 @@
+-- `matrix::columns::fill_rules` meets its contract: ones for τ = 1, else the lightest eligible columns, of which there are enough.
+-- Assumes nothing.
+use mathlib.Core.Path.{_≡_, _∙_}
+use mathlib.Core.List.{List}
+use Prim.Native.Nat.{ℕ}
+use native.Mathlib.Omega.{arith}
+use lib.ListN.{length, take, length-take}
+use borrow.Author.Needs.{needs}
+use borrow.Author.Tests.{eq-eqb, ne-eqb}
+use Rattle.parity.specs.Lists.{keep}
+use Rattle.parity.specs.Matrix.{columnOrder, eligible, ruleColumns}
+use Rattle.parity.proofs.Filled.{filledFrom-enough}
+use Rattle.matrix.proofs.columns.fill_rules.Statement.{statement}
+use Rattle.matrix.proofs.columns.fill_rules.Tie as tie
+
+fill-requires : tie.Need-fill-requires
+fill-requires c κs = search needs
+
+same-length : tie.Need-same-length
+same-length c = search needs
+
+returns : tie.Need-returns
+unfolding ruleColumns
+returns c =
+    let args = c .before .before .before .before .before .before .args in
+    simp (eq-eqb (args .errors) 1 (c .before .before .before .before .if1 .taken)) (c .before .before .fill .ensures)
+
+fill-lightest-requires : tie.Need-fill-lightest-requires
+fill-lightest-requires c κs = search needs
+
+same-length-2 : tie.Need-same-length-2
+same-length-2 c = search needs
+
+returns-2 : tie.Need-returns-2
+unfolding ruleColumns
+returns-2 c =
+    let start = c .before .before .before .before .before .before in
+    let args = start .args in
+    let list : List ℕ = keep (eligible (args .errors) (args .checks)) columnOrder in
+    let k = length (args .part .now) in
+    let not-one = ne-eqb (args .errors) 1 (c .before .before .before .before .if1 .left) in
+    let enough : length (take k list) ≡ k = simp not-one at (start .pre .1) in
+    simp not-one (c .before .before .fill-lightest .ensures ∙ filledFrom-enough list (args .part .now) (omega (arith, length-take k list)))
+
+pub fill-rules-spec : {M : Type 1} → statement M
+fill-rules-spec =
+    tie.close
+    (tie.spec fill-requires same-length returns fill-lightest-requires same-length-2 returns-2)

@@ -1,0 +1,2 @@
+-- The fields of a job, and its questions.
+pub mod Parse

@@ -1,0 +1,108 @@
+-- The columns of a check row, one after the other: the ones counted, and the next one found. Assumes nothing.
+use mathlib.Core.Path.{_≡_, refl, ap, _∙_}
+use mathlib.Core.Bool.{Bool, true, false, cond}
+use mathlib.Core.List.{List, [], _∷_}
+use Prim.Native.Nat.{ℕ, zero, suc, _+_, _-_, _*_, _/_, _%_, _^_, _≤_, _<_}
+use native.Mathlib.Omega.{arith}
+use lib.Dec.{eqb}
+use lib.ListN.{length, getD, take}
+use lib.Seq.{take-suc, take-all}
+use borrow.Author.Tests.{eqb-true, eqb-false, eq-eqb, ne-eqb}
+use Rattle.parity.specs.Lists.{sumOver, sumTo, firstFrom}
+use Rattle.parity.specs.Shape.{digit}
+use Rattle.parity.specs.Matrix.{bit, placesFrom}
+use Rattle.parity.proofs.Sums.{bit-below, bit-zero}
+use Rattle.matrix.proofs.MatrixOnes.{places-length, sumTo-add}
+use Rattle.schedule.proofs.Sums.{sum-append}
+
+-- how many of the first j columns have a one in check row ℓ
+abbrev pub onesBefore : List ℕ → ℕ → ℕ → ℕ
+onesBefore cs ℓ j = length (placesFrom 0 ℓ (take j cs))
+
+-- the first column from i on with a one in check row ℓ, or their number where there is none
+abbrev pub heldFrom : List ℕ → ℕ → ℕ → ℕ
+heldFrom cs ℓ i = firstFrom (λ j. eqb (bit ℓ (getD cs j 0)) 1) (length cs - i) i
+
+-- a check row has at most a one in each column ..
+bits-high : (ℓ : ℕ) (cs : List ℕ) → sumOver cs (bit ℓ) ≤ length cs
+bits-high ℓ [] = omega arith
+bits-high ℓ (c ∷ cs) = omega (arith, bit-below ℓ c, bits-high ℓ cs)
+
+pub places-high : (ℓ : ℕ) (cs : List ℕ) → length (placesFrom 0 ℓ cs) ≤ length cs
+places-high ℓ cs = rw (places-length 0 ℓ cs) (bits-high ℓ cs)
+
+-- .. and so at most 255
+pub rows-high : (cs : List ℕ) → length cs ≤ 255 → (ℓ : ℕ) → sumTo ℓ (λ l. length (placesFrom 0 l cs)) ≤ 255 * ℓ
+rows-high cs h zero = omega arith
+rows-high cs h (suc ℓ) = omega (arith, rows-high cs h ℓ, places-high ℓ cs)
+
+-- the bit as the code takes it out of a column's number
+pub bit-tested : (ℓ c bound number : ℕ) → bound ≡ 2 ^ ℓ → number ≡ c → number / bound % 2 ≡ bit ℓ c
+unfolding digit
+bit-tested ℓ c bound number e f = rw (e, f)
+
+-- ---- one column more
+
+pub before-next : (cs : List ℕ) (ℓ j : ℕ) → j < length cs → onesBefore cs ℓ (suc j) ≡ onesBefore cs ℓ j + bit ℓ (getD cs j 0)
+before-next cs ℓ j h =
+    omega (
+      arith,
+      places-length 0 ℓ (take (suc j) cs) ∙ ap (λ ds. sumOver ds (bit ℓ)) (take-suc cs j 0 h),
+      sum-append (bit ℓ) (take j cs) (getD cs j 0 ∷ []),
+      places-length 0 ℓ (take j cs),
+    )
+
+module _ (cs : List ℕ) (ℓ j : ℕ) where
+  pub before-rows-next :
+      j < length cs
+      → sumTo ℓ (λ l. onesBefore cs l (suc j)) ≡ sumTo ℓ (λ l. onesBefore cs l j) + sumTo ℓ (λ l. bit l (getD cs j 0))
+  before-rows-next h =
+      ap (sumTo ℓ) (λ i l. before-next cs l j h i) ∙ sumTo-add ℓ (λ l. onesBefore cs l j) (λ l. bit l (getD cs j 0))
+
+  pub before-all : length cs ≤ j → onesBefore cs ℓ j ≡ length (placesFrom 0 ℓ cs)
+  before-all h = ap (λ ds. length (placesFrom 0 ℓ ds)) (take-all j cs h)
+
+  -- ---- the search
+
+  from-next : j < length cs → heldFrom cs ℓ j ≡ cond (eqb (bit ℓ (getD cs j 0)) 1) j (heldFrom cs ℓ (suc j))
+  from-next h =
+      let less : length cs - j ≡ suc (length cs - suc j) = omega arith in
+      ap (λ n. firstFrom (λ j. eqb (bit ℓ (getD cs j 0)) 1) n j) less
+
+  pub held-here : j < length cs → bit ℓ (getD cs j 0) ≡ 1 → heldFrom cs ℓ j ≡ j
+  held-here h e = from-next h ∙ rw (eq-eqb (bit ℓ (getD cs j 0)) 1 e)
+
+  pub held-later : j < length cs → (bit ℓ (getD cs j 0) ≡ 1 → ⊥) → heldFrom cs ℓ j ≡ heldFrom cs ℓ (suc j)
+  held-later h e = from-next h ∙ rw (ne-eqb (bit ℓ (getD cs j 0)) 1 e)
+
+  pub held-none : j ≡ length cs → heldFrom cs ℓ j ≡ j
+  held-none e =
+      let none : length cs - j ≡ 0 = omega arith in
+      ap (λ n. firstFrom (λ j. eqb (bit ℓ (getD cs j 0)) 1) n j) none
+
+-- column j has a one in check row ℓ, and none stands between i and it
+pub record Held (cs : List ℕ) (ℓ i j : ℕ) : Type 0 where
+  pub column : j < length cs
+  pub one : bit ℓ (getD cs j 0) ≡ 1
+  pub before : onesBefore cs ℓ j ≡ onesBefore cs ℓ i
+
+-- the search finds such a column where the check row has a one from i on
+pub held-found :
+    (cs : List ℕ) (ℓ n i : ℕ) → i + n ≡ length cs → onesBefore cs ℓ i < length (placesFrom 0 ℓ cs) → Held cs ℓ i (heldFrom cs ℓ i)
+held-found cs ℓ zero i e h = absurd (omega (arith, before-all cs ℓ i (omega arith)))
+held-found cs ℓ (suc n) i e h = go (eqb (bit ℓ (getD cs i 0)) 1) refl (held-found cs ℓ n (suc i) (omega arith))
+  where
+    lt : i < length cs
+    lt = omega arith
+
+    go :
+        (t : Bool) → eqb (bit ℓ (getD cs i 0)) 1 ≡ t
+        → (onesBefore cs ℓ (suc i) < length (placesFrom 0 ℓ cs) → Held cs ℓ (suc i) (heldFrom cs ℓ (suc i))) → Held cs ℓ i (heldFrom cs ℓ i)
+    go true q rest =
+        let one = eqb-true (bit ℓ (getD cs i 0)) 1 q in
+        rw (held-here cs ℓ i lt one) (record { column = lt; one = one; before = refl })
+    go false q rest =
+        let none = eqb-false (bit ℓ (getD cs i 0)) 1 q in
+        let same : onesBefore cs ℓ (suc i) ≡ onesBefore cs ℓ i = omega (arith, before-next cs ℓ i lt, bit-zero ℓ (getD cs i 0) none) in
+        let found = rest (omega arith) in
+        rw (held-later cs ℓ i lt none) (record { column = found .column; one = found .one; before = found .before ∙ same })

@@ -1,0 +1,2 @@
+-- What the passes over the columns tell.
+pub mod Survey

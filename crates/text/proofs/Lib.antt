@@ -1,0 +1,3 @@
+-- The laws that the proofs of the functions, here and in the crate above, cite.
+pub mod Decimal
+pub mod Written

@@ -1,0 +1,2 @@
+-- What a job prints.
+pub mod Text

@@ -1,0 +1,2 @@
+// What a job prints, put into a lent buffer.
+pub mod print;
