@@ -1,7 +1,7 @@
 //! The code of a row: the encoder of its check cells, and the codeword test.
 
 use crate::matrix::MAX_CHECKS;
-use crate::shape::Layout;
+use crate::shape::{Layout, Refusal, Shape};
 
 /// The largest number of digits: 2^8 is the largest number of levels.
 const MAX_DIGITS: usize = 8;
@@ -26,6 +26,16 @@ pub fn encode(layout: &Layout, row: &mut [u8]) {
     for (check, sums) in checks.iter_mut().zip(&sums) {
         *check = balancing_level(layout, sums);
     }
+}
+
+/// The encoder as a call on one lent row of n cells: question 6 is asked of the
+/// row, question 8 of its first k cells.
+pub fn encode_row(shape: Shape, row: &mut [u8]) -> Result<(), Refusal> {
+    let layout = shape.layout()?;
+    layout.ask_length(row, layout.columns())?;
+    layout.ask_levels(&row[..layout.width()])?;
+    encode(&layout, row);
+    Ok(())
 }
 
 /// Whether a row of n cells is sound: all its cells are below q, and each

@@ -1,4 +1,4 @@
-//! The detection cycle: its record, start and step.
+//! The detection cycle: its record, start, step, and one whole cycle.
 //!
 //! Schedule: check rows ℓ upwards; within it digits s from the highest down;
 //! within it the columns j of J(ℓ) upwards; within it the factors a from 1
@@ -233,16 +233,48 @@ fn ask_step(
     matches: &[u8],
     cycle: &Cycle,
 ) -> Result<Layout, Refusal> {
-    let layout = shape.layout()?;
-    layout.ask_length(cells, layout.cells())?;
-    layout.ask_length(counters, layout.rows())?;
-    layout.ask_length(flags, layout.rows())?;
-    layout.ask_length(matches, layout.rows())?;
+    let layout = ask_lent(shape, cells, counters, flags, matches)?;
     if cycle.awaits_step(&layout) {
         Ok(layout)
     } else {
         Err(Refusal::Record)
     }
+}
+
+/// Questions 1 to 5, and question 6 for all buffers of a step.
+fn ask_lent(
+    shape: Shape,
+    cells: &[u8],
+    counters: &[u8],
+    flags: &[u8],
+    matches: &[u8],
+) -> Result<Layout, Refusal> {
+    let layout = shape.layout()?;
+    layout.ask_length(cells, layout.cells())?;
+    layout.ask_length(counters, layout.rows())?;
+    layout.ask_length(flags, layout.rows())?;
+    layout.ask_length(matches, layout.rows())?;
+    Ok(layout)
+}
+
+/// One whole cycle: a start and all its steps. The match bytes are those of
+/// the last step. Question 9 is not asked, since a start takes any record.
+pub fn run(
+    shape: Shape,
+    cells: &[u8],
+    counters: &mut [u8],
+    flags: &mut [u8],
+    matches: &mut [u8],
+    cycle: Cycle,
+) -> (Cycle, Result<(), Refusal>) {
+    if let Err(refusal) = ask_lent(shape, cells, counters, flags, matches) {
+        return (cycle, Err(refusal));
+    }
+    let (mut now, mut answer) = start(shape, counters, flags, cycle);
+    while answer.is_ok() && now.phase == Phase::Open {
+        (now, answer) = step(shape, cells, counters, flags, matches, now);
+    }
+    (now, answer)
 }
 
 /// Feeds the record's vector. All columns but one are fed 0 and answer 1, so

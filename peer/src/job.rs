@@ -8,7 +8,7 @@
 use std::fmt::Write;
 
 use crate::array::{drift, program};
-use crate::cycle::{start, step, Cycle, Phase};
+use crate::cycle::{self, Cycle};
 use crate::shape::{Layout, Refusal, Shape};
 
 /// The largest number of bytes of a job.
@@ -144,13 +144,15 @@ fn run_cycle(layout: &Layout, cells: &[u8]) -> Result<(Cycle, Vec<u8>), Refusal>
     let mut counters = vec![0; layout.rows()];
     let mut flags = vec![0; layout.rows()];
     let mut matches = vec![0; layout.rows()];
-    let (mut cycle, answer) = start(shape, &mut counters, &mut flags, Cycle::IDLE);
+    let (cycle, answer) = cycle::run(
+        shape,
+        cells,
+        &mut counters,
+        &mut flags,
+        &mut matches,
+        Cycle::IDLE,
+    );
     answer?;
-    while cycle.phase == Phase::Open {
-        let (next, answer) = step(shape, cells, &mut counters, &mut flags, &mut matches, cycle);
-        answer?;
-        cycle = next;
-    }
     Ok((cycle, flags))
 }
 

@@ -9,7 +9,7 @@
 //! - [`matrix`]: the parity-check matrix;
 //! - [`code`]: the encoder of the check cells and the codeword test;
 //! - [`comparator`]: the rule of a match line;
-//! - [`cycle`]: the cycle record, start and step;
+//! - [`cycle`]: the cycle record, start, step, and one whole cycle;
 //! - [`mod@array`]: the other calls on an array;
 //! - [`mod@job`]: the job program as a function;
 //! - [`list`] and [`random`]: lists of calls and generators for tests.
@@ -28,8 +28,8 @@ pub mod random;
 pub mod shape;
 
 pub use array::{clear, drift, first_match, lookup, program, read, sound};
-pub use code::{encode, is_codeword};
+pub use code::{encode, encode_row, is_codeword};
 pub use comparator::match_byte;
-pub use cycle::{start, step, Cycle, Phase};
+pub use cycle::{run, start, step, Cycle, Phase};
 pub use job::job;
 pub use shape::{Layout, Refusal, Shape};

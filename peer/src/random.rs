@@ -158,7 +158,7 @@ pub fn bad_shape(random: &mut Random) -> Shape {
 }
 
 /// Puts one number of a shape out of its limits.
-fn spoil(random: &mut Random, shape: &mut Shape) {
+pub fn spoil(random: &mut Random, shape: &mut Shape) {
     match random.below(5) {
         0 => shape.radix = random.pick(&[0, 1, 256, 257, 65_536, usize::MAX]),
         1 => shape.digits = random.pick(&[0, 9, 64, 65, 1 << 32, usize::MAX - 1, usize::MAX]),

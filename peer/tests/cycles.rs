@@ -46,6 +46,7 @@ fn lent(random: &mut Random, spec: &Spec) -> Lent {
         flags: random.bytes(rows),
         matches: random.bytes(rows),
         out: Vec::new(),
+        line: Vec::new(),
         cycle: Cycle::IDLE,
     }
 }

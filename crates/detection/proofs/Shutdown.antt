@@ -25,6 +25,7 @@ use Rattle.scrub.specs.Run.{Call, start, program, runFrom, run}
 use Rattle.detection.specs.Log.{ended, Log, blank, logFrom, log}
 use Rattle.detection.specs.Claims.{stepsWith, Buffers, repair, ShutdownClaim}
 use Rattle.detection.proofs.Elements.{at-set, tabulate-same}
+use Rattle.scrub.proofs.Runs.{run-append}
 use Rattle.scrub.proofs.Asked.{Programs, program-fits}
 use Rattle.detection.proofs.Still.{stillClaim}
 use Rattle.detection.proofs.Agreement.{Agrees, sized, cells-below, written-row, row-stands}
@@ -32,10 +33,6 @@ use Rattle.detection.proofs.Keeping.{agrees-run}
 use Rattle.detection.proofs.Detection.{agrees, ended-flag}
 
 module _ (s : Shape) where
-  run-append : (xs ys : List Call) (st : State) → runFrom s st (xs ++ ys) ≡ runFrom s (runFrom s st xs) ys
-  run-append [] ys st = refl
-  run-append (x ∷ xs) ys st = run-append xs ys _
-
   log-append : (xs ys : List Call) (l : Log) → logFrom s l (xs ++ ys) ≡ logFrom s (logFrom s l xs) ys
   log-append [] ys l = refl
   log-append (x ∷ xs) ys l = log-append xs ys _
@@ -139,6 +136,6 @@ shutdownClaim s t calls is off near buffers made whole =
     record {
       restored = λ i h. ap (λ k. getD (k .standing) i []) (log-append s calls repairs (blank s)) ∙ restored-row s t st l a is off near i h;
       quiet =
-          ap (λ k. k .flags) (run-append s (calls ++ repairs) cycle (fresh s) ∙ ap (λ k. runFrom s k cycle) (run-append s calls repairs (fresh s)))
+          ap (λ k. k .flags) (run-append s (fresh s) (calls ++ repairs) cycle ∙ ap (λ k. runFrom s k cycle) (run-append s (fresh s) calls repairs))
           ∙ quiet-cycle s t st l a is off near buffers made whole;
     }

@@ -24,7 +24,7 @@ use Rattle.scrub.proofs.Lent.{lengthQuestions}
 use Rattle.detection.proofs.Course.{fresh-sized}
 use Rattle.parse.specs.Parse.{jobShape, rowLevels, driftCount, driftRow, driftColumn, driftLevel}
 use Rattle.job.specs.Job.{jobCalls, jobState}
-use Rattle.job.proofs.Runs.{run-append}
+use Rattle.scrub.proofs.Runs.{run-append}
 
 module _ (s : Shape) where
   -- ---- calls that change the cells alone

@@ -1,5 +1,4 @@
 -- The proofs of this crate's functions, each in the folder of its function, and the laws that they cite.
-pub mod Runs
 pub mod JobCalls
 pub mod JobText
 pub mod TakenJob

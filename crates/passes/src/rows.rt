@@ -1,10 +1,11 @@
 // The passes of a step over the rows.
+use limits::byte::fill;
 use limits::byte::wide;
 ghost use mathlib.Core.Path.{_≡_};
 ghost use mathlib.Core.Bool.{cond};
 ghost use Prim.Native.Nat.{ℕ, _+_, _*_, _%_, _≤_, _<_};
 ghost use lib.Dec.{eqb, leb};
-ghost use lib.ListN.{length, getD};
+ghost use lib.ListN.{length, getD, replicate};
 ghost use Rattle.parity.specs.Lists.{tabulate};
 
 // The match byte of every row for the vector with the input in one column and 0 elsewhere: that column alone
@@ -98,4 +99,13 @@ pub fn flag_rows(counters: &[u8], flags: &mut [u8])
         }
         i += 1;
     }
+}
+
+// Counters and flags where a cycle begins: all 0.
+pub fn reset_rows(counters: &mut [u8], flags: &mut [u8])
+    ensures counted { λ _. ⌜ now (counters .exit) ≡ replicate (length (now (counters .entry))) 0 ⌝ }
+    ensures flagged { λ _. ⌜ now (flags .exit) ≡ replicate (length (now (flags .entry))) 0 ⌝ }
+{
+    fill(counters, 0);
+    fill(flags, 0);
 }

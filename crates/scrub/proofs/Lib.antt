@@ -11,3 +11,4 @@ pub mod StepPasses
 pub mod Lent
 pub mod Given
 pub mod MatrixPart
+pub mod Runs

@@ -17,6 +17,7 @@ use passes::factors::input_of;
 use passes::rows::count_rows;
 use passes::rows::flag_rows;
 use passes::rows::match_column;
+use passes::rows::reset_rows;
 ghost use mathlib.Core.Path.{_≡_};
 ghost use mathlib.Core.Bool.{true, _&&_};
 ghost use mathlib.Core.List.{[], _∷_, _++_};
@@ -130,8 +131,7 @@ impl Cycle {
             Checked::Refused(number) => refused(self, number),
             Checked::Taken(_) => {
                 fill(cells, 0);
-                fill(counters, 0);
-                fill(flags, 0);
+                reset_rows(counters, flags);
                 done(Cycle::IDLE)
             }
         }
@@ -166,8 +166,7 @@ impl Cycle {
                 if flags.len() != rows {
                     return refused(self, 6);
                 }
-                fill(counters, 0);
-                fill(flags, 0);
+                reset_rows(counters, flags);
                 let columns = columns_of(shape, checks);
                 done(Cycle::first(shape, &columns[..count]))
             }

@@ -247,6 +247,7 @@ pub struct Lent {
     pub flags: Vec<u8>,
     pub matches: Vec<u8>,
     pub out: Vec<u8>,
+    pub line: Vec<u8>,
     pub cycle: Cycle,
 }
 
@@ -263,7 +264,7 @@ fn all_below(levels: &[u8], bound: usize) -> bool {
     levels.iter().all(|&level| usize::from(level) < bound)
 }
 
-// The nine calls. A refused one leaves all that is lent as it was.
+// The calls. A refused one leaves all that is lent as it was.
 
 pub fn clear(shape: Shape, lent: &mut Lent) -> Result<(), u8> {
     let spec = questions(shape)?;
@@ -362,6 +363,19 @@ pub fn step(shape: Shape, lent: &mut Lent) -> Result<(), u8> {
     step_with(&spec, &spec.schedule(), lent)
 }
 
+/// A start and as many steps as the schedule has vectors.
+pub fn run(shape: Shape, lent: &mut Lent) -> Result<(), u8> {
+    let spec = questions(shape)?;
+    ask(lent.cells.len() == spec.cells(), 6)?;
+    ask(lent.matches.len() == shape.rows, 6)?;
+    start(shape, lent)?;
+    let schedule = spec.schedule();
+    for _ in &schedule {
+        step_with(&spec, &schedule, lent)?;
+    }
+    Ok(())
+}
+
 pub fn first_match(shape: Shape, lent: &Lent, inputs: &[u8]) -> Result<Option<usize>, u8> {
     let spec = questions(shape)?;
     ask(lent.cells.len() == spec.cells(), 6)?;
@@ -384,6 +398,15 @@ pub fn read(shape: Shape, lent: &mut Lent, row: usize) -> Result<(), u8> {
     ask(lent.out.len() == shape.width, 6)?;
     ask(row < shape.rows, 7)?;
     lent.out = spec.row(&lent.cells, row)[..shape.width].to_vec();
+    Ok(())
+}
+
+pub fn encode_row(shape: Shape, lent: &mut Lent) -> Result<(), u8> {
+    let spec = questions(shape)?;
+    ask(lent.line.len() == spec.columns(), 6)?;
+    let levels = &lent.line[..shape.width];
+    ask(all_below(levels, spec.levels), 8)?;
+    lent.line = spec.encoded(levels);
     Ok(())
 }
 
@@ -449,6 +472,7 @@ pub fn cycle_flags(spec: &Spec, cells: &[u8]) -> Vec<u8> {
         flags: vec![0; spec.shape.rows],
         matches: vec![0; spec.shape.rows],
         out: Vec::new(),
+        line: Vec::new(),
         cycle: record(&schedule, 0),
     };
     while lent.cycle.phase == Phase::Open {

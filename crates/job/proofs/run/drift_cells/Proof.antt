@@ -16,7 +16,7 @@ use Rattle.scrub.specs.Calls.{driftCall}
 use Rattle.scrub.specs.Run.{Call, drift, runFrom}
 use Rattle.scrub.specs.Methods.{stateOf}
 use Rattle.parse.specs.Parse.{byteAt, twoAt, driftCount, driftStart, driftRow, driftColumn, driftLevel}
-use Rattle.job.proofs.Runs.{run-next}
+use Rattle.scrub.proofs.Runs.{run-next}
 use Rattle.job.proofs.TakenJob.{takenJob}
 use Rattle.job.proofs.run.drift_cells.Statement.{statement}
 use Rattle.job.proofs.run.drift_cells.Tie as tie

@@ -16,7 +16,7 @@ use Rattle.scrub.specs.Calls.{programCall}
 use Rattle.scrub.specs.Run.{Call, program, runFrom}
 use Rattle.scrub.specs.Methods.{stateOf}
 use Rattle.parse.specs.Parse.{jobShape, rowLevels, levelCount}
-use Rattle.job.proofs.Runs.{run-next}
+use Rattle.scrub.proofs.Runs.{run-next}
 use Rattle.job.proofs.TakenJob.{takenJob, row-within}
 use Rattle.job.proofs.run.program_rows.Statement.{statement}
 use Rattle.job.proofs.run.program_rows.Tie as tie

@@ -1,4 +1,4 @@
--- `scrub::cycle::Cycle::clear` meets its contract: where `check_lent` takes the buffers, each is filled to its length. Assumes nothing.
+-- `scrub::cycle::Cycle::clear` meets its contract: where `check_lent` takes the buffers, cells are filled, and counters and flags reset. Assumes nothing.
 use mathlib.Core.Path.{sym, _∙_, ap}
 use mathlib.Core.List.{[]}
 use lib.ListN.{replicate}
@@ -36,11 +36,8 @@ enum-told c = search needs
 fill-requires : tie.Need-fill-requires
 fill-requires c κs = search needs
 
-fill-requires-2 : tie.Need-fill-requires-2
-fill-requires-2 c κs = search needs
-
-fill-requires-3 : tie.Need-fill-requires-3
-fill-requires-3 c κs = search needs
+reset-rows-requires : tie.Need-reset-rows-requires
+reset-rows-requires c κs = search needs
 
 done-requires : tie.Need-done-requires
 done-requires c κs = search needs
@@ -67,14 +64,14 @@ same-length-3 c = search needs
 returns-2 : tie.Need-returns-2
 unfolding clearCall clearRefusal fresh
 returns-2 c =
-    let filled = c .before .before .before .before .before .before .before .before .before .before .before in
+    let filled = c .before .before .before .before .before .before .before .before .before .before in
     let start = filled .before .before .before .before .before .before .before .before in
     let p = buffers-taken (filled .before .before) in
     let gives = done-gives _ (fresh (start .args .shape)) (entry start) _ _ (p .none) (c .done .ensures)
     (λ i. record {
       cells = (filled .fill .ensures ∙ ap (λ n. replicate n 0) (p .sized .cells)) i;
-      counters = (c .before .before .before .before .before .before .before .fill2 .ensures ∙ ap (λ n. replicate n 0) (p .sized .counters)) i;
-      flags = (c .before .before .before .fill3 .ensures ∙ ap (λ n. replicate n 0) (p .sized .flags)) i;
+      counters = (c .before .before .before .before .before .reset-rows .ensures .0 ∙ ap (λ n. replicate n 0) (p .sized .counters)) i;
+      flags = (c .before .before .before .before .before .reset-rows .ensures .1 ∙ ap (λ n. replicate n 0) (p .sized .flags)) i;
       cycle = idle;
     }) in
     (gives .answered, (gives .cells, (gives .counters, gives .flags)))
@@ -88,8 +85,7 @@ clear-spec =
     refused-requires
     enum-told
     fill-requires
-    fill-requires-2
-    fill-requires-3
+    reset-rows-requires
     done-requires
     returns
     same-length

@@ -28,10 +28,10 @@ shape-taken c = passed _ _ (sym (c .before .before .check-shape .ensures) ∙ c 
 
 columns-lent :
     (c : tie.After-columns-of)
-    → let sizes = c .before .before .before .before .before .before .before .before .before .before .before .before in
+    → let sizes = c .before .before .before .before .before .before .before .before .before .before .before in
     Part (sizes .before .before .before .before .before .args .shape) (sizes .sizes .given .0 .0 .columns) (c .columns-of .result)
 columns-lent c =
-    let p = shape-taken (c .before .before .before .before .before .before .before .before .before .before .before .before) in
+    let p = shape-taken (c .before .before .before .before .before .before .before .before .before .before .before) in
     columns-part _ _ _ (p .taken) (p .columns) (c .columns-of .ensures)
 
 check-shape-requires : tie.Need-check-shape-requires
@@ -76,15 +76,12 @@ returns-2 c =
     let gives = refused-gives _ (started s st) st _ 6 (no, lit< tt) (c .refused3 .ensures) in
     (gives .answered, (gives .counters, gives .flags))
 
-fill-requires : tie.Need-fill-requires
-fill-requires c κs = search needs
-
-fill-requires-2 : tie.Need-fill-requires-2
-fill-requires-2 c κs = search needs
+reset-rows-requires : tie.Need-reset-rows-requires
+reset-rows-requires c κs = search needs
 
 columns-of-requires : tie.Need-columns-of-requires
 columns-of-requires c κs =
-    let p = shape-taken (c .before .before .before .before .before .before .before .before .before .before .before) in
+    let p = shape-taken (c .before .before .before .before .before .before .before .before .before .before) in
     (p .taken, p .checks)
 
 array-share-prefix-columns : tie.Need-array-share-prefix-columns
@@ -95,7 +92,7 @@ slice-aggregate-first c = columns-lent (c .before) .sized
 
 first-requires : tie.Need-first-requires
 first-requires c κs =
-    let p = shape-taken (c .before .before .before .before .before .before .before .before .before .before .before .before .before) in
+    let p = shape-taken (c .before .before .before .before .before .before .before .before .before .before .before .before) in
     (p .taken, columns-lent (c .before) .holds)
 
 done-requires : tie.Need-done-requires
@@ -121,20 +118,20 @@ same-length-2 c = search needs
 returns-4 : tie.Need-returns-4
 unfolding startCall startRefusal started
 returns-4 c =
-    let filled = c .before .before .before .before .before .before .before .before .before .before in
-    let sizes = filled .before .before .before .before .before in
+    let filled = c .before .before .before .before .before .before .before .before in
+    let sizes = filled .before .before .before .before .before .before in
     let start = sizes .before .before .before .before .before in
     let s = start .args .shape in
     let st = entry start in
-    let counters = filled .before .before .before .if1 .left in
-    let flags = filled .before .before .if2 .left in
+    let counters = filled .before .before .before .before .if1 .left in
+    let flags = filled .before .before .before .if2 .left in
     let none : startRefusal s st ≡ 0 = taken-rest s (shape-taken sizes .taken) (asked s st)
     ∙ simp (eq-eqb (length (st .counters)) (s .rows) counters, eq-eqb (length (st .flags)) (s .rows) flags) in
     let gives = done-gives _ (started s st) st _ _ none (c .done .ensures)
     (λ i. record {
       cells = [];
-      counters = (filled .fill .ensures ∙ ap (λ n. replicate n 0) counters) i;
-      flags = (c .before .before .before .before .before .before .fill2 .ensures ∙ ap (λ n. replicate n 0) flags) i;
+      counters = (filled .reset-rows .ensures .0 ∙ ap (λ n. replicate n 0) counters) i;
+      flags = (filled .reset-rows .ensures .1 ∙ ap (λ n. replicate n 0) flags) i;
       cycle = c .before .first .ensures i;
     }) in
     (gives .answered, (gives .counters, gives .flags))
@@ -151,8 +148,7 @@ start-spec =
     returns
     refused-requires-3
     returns-2
-    fill-requires
-    fill-requires-2
+    reset-rows-requires
     columns-of-requires
     array-share-prefix-columns
     slice-aggregate-first

@@ -1,0 +1,71 @@
+// The record as six words: its phase (0 idle, 1 open, 2 complete), row, digit, column, factor and count. Any other
+// phase is read as idle.
+use limits::answer::Outcome;
+use scrub::cycle::Changed;
+use scrub::cycle::Cycle;
+use scrub::cycle::Phase;
+ghost use mathlib.Core.Path.{_≡_};
+ghost use Rattle.words.specs.Words.{phaseOf, phaseWord, cycleOf, wordsOf, answerOf, wordsAfter};
+
+fn phase_of(word: usize) -> Phase
+    ensures { λ r. ⌜ r ≡ phaseOf word ⌝ }
+{
+    match word {
+        1 => Phase::Open,
+        2 => Phase::Complete,
+        _ => Phase::Idle,
+    }
+}
+
+fn phase_word(phase: Phase) -> usize
+    ensures { λ r. ⌜ r ≡ phaseWord phase ⌝ }
+{
+    match phase {
+        Phase::Idle => 0,
+        Phase::Open => 1,
+        Phase::Complete => 2,
+    }
+}
+
+pub fn cycle_of(words: &[usize; 6]) -> Cycle
+    ensures { λ r. ⌜ r ≡ cycleOf (now (words .entry)) ⌝ }
+{
+    Cycle {
+        phase: phase_of(words[0]),
+        row: words[1],
+        digit: words[2],
+        column: words[3],
+        factor: words[4],
+        count: words[5],
+    }
+}
+
+fn words_of(cycle: Cycle) -> [usize; 6]
+    ensures { λ r. ⌜ r ≡ wordsOf cycle ⌝ }
+{
+    let phase = cycle.phase;
+    [
+        phase_word(phase),
+        cycle.row,
+        cycle.digit,
+        cycle.column,
+        cycle.factor,
+        cycle.count,
+    ]
+}
+
+// Stores the record of a call that was taken; a refusal leaves the words as they are.
+pub fn store(words: &mut [usize; 6], changed: Changed) -> u8
+    ensures answered { λ r. ⌜ r ≡ answerOf changed ⌝ }
+    ensures recorded { λ _. ⌜ now (words .exit) ≡ wordsAfter changed (now (words .entry)) ⌝ }
+{
+    let outcome = changed.outcome;
+    let cycle = changed.cycle;
+    match outcome {
+        Outcome::Refused(number) => number,
+        Outcome::Done => {
+            *words = words_of(cycle);
+            0
+        }
+    }
+}

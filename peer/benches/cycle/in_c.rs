@@ -1,0 +1,118 @@
+//! The loops in C, where they were compiled.
+
+use peer::{Layout, Shape};
+
+use crate::proved_calls::Words;
+
+/// Whether they were.
+pub const THERE: bool = cfg!(in_c);
+
+/// The compiler, as it was called.
+pub const COMPILER: Option<&str> = option_env!("C_COMPILER");
+
+/// What is set up once for an array.
+#[repr(C)]
+pub struct Array {
+    radix: usize,
+    digits: usize,
+    width: usize,
+    rows: usize,
+    checks: usize,
+    columns: usize,
+    powers: [usize; 9],
+    matrix: [u8; 255],
+}
+
+impl Array {
+    pub fn new(shape: Shape) -> Array {
+        let layout: Layout = shape.layout().expect("a good shape");
+        let mut powers = [0; 9];
+        let mut matrix = [0; 255];
+        for (digit, power) in powers.iter_mut().enumerate().take(shape.digits + 1) {
+            *power = shape.radix.pow(digit as u32);
+        }
+        for (place, column) in matrix.iter_mut().zip(layout.matrix()) {
+            *place = column;
+        }
+        Array {
+            radix: shape.radix,
+            digits: shape.digits,
+            width: shape.width,
+            rows: shape.rows,
+            checks: layout.checks(),
+            columns: layout.columns(),
+            powers,
+            matrix,
+        }
+    }
+
+    /// Whether the buffers have the lengths that the loops trust in.
+    fn fits(&self, cells: &[u8], others: [&[u8]; 3]) -> bool {
+        cells.len() == self.rows * self.columns
+            && others.iter().all(|other| other.len() == self.rows)
+    }
+}
+
+/// Declares the functions, or has each of them fail where they are not linked.
+macro_rules! linked {
+    ($(fn $name:ident($($argument:ident: $kind:ty),* $(,)?) $(-> $answer:ty)?;)*) => {
+        #[cfg(in_c)]
+        extern "C" {
+            $(fn $name($($argument: $kind),*) $(-> $answer)?;)*
+        }
+
+        $(
+            #[cfg(not(in_c))]
+            unsafe fn $name($(_: $kind),*) $(-> $answer)? {
+                panic!("no C compiler was found")
+            }
+        )*
+    };
+}
+
+linked! {
+    fn loops_start(array: *const Array, record: *mut Words, counters: *mut u8, flags: *mut u8);
+    fn loops_step(
+        array: *const Array,
+        record: *mut Words,
+        cells: *const u8,
+        counters: *mut u8,
+        flags: *mut u8,
+        matches: *mut u8,
+    ) -> u8;
+    fn loops_encode(array: *const Array, row: *mut u8);
+}
+
+pub fn start(array: &Array, words: &mut Words, counters: &mut [u8], flags: &mut [u8]) {
+    assert!(counters.len() == array.rows && flags.len() == array.rows);
+    unsafe { loops_start(array, words, counters.as_mut_ptr(), flags.as_mut_ptr()) }
+}
+
+/// Makes so many steps.
+pub fn steps(
+    array: &Array,
+    words: &mut Words,
+    cells: &[u8],
+    [counters, flags, matches]: [&mut [u8]; 3],
+    steps: usize,
+) {
+    assert!(array.fits(cells, [counters, flags, matches]));
+    for _ in 0..steps {
+        let number = unsafe {
+            loops_step(
+                array,
+                words,
+                cells.as_ptr(),
+                counters.as_mut_ptr(),
+                flags.as_mut_ptr(),
+                matches.as_mut_ptr(),
+            )
+        };
+        assert_eq!(number, 0);
+    }
+}
+
+pub fn encode(array: &Array, row: &mut [u8]) {
+    assert_eq!(row.len(), array.columns);
+    unsafe { loops_encode(array, row.as_mut_ptr()) }
+}

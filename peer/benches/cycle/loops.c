@@ -1,0 +1,135 @@
+// The step and the encoder as plain loops in C, to compare speed with.
+//
+// A program in C would work out sizes and columns once, when it sets the array
+// up, and would trust its own buffers. So these leave out:
+// - questions 1 to 6, and question 8 of the encoder;
+// - of question 9, whether the count is that of the place; a step asks that the
+//   cycle is open and that check row, digit, column and factor are ones of the
+//   schedule;
+// - the remainder of a counter that somebody else wrote.
+
+#include <stddef.h>
+#include <stdint.h>
+#include <string.h>
+
+enum { IDLE, OPEN, COMPLETE };
+
+struct array {
+    size_t radix, digits, width, rows;
+    size_t checks, columns;
+    size_t powers[9];     // of the radix, up to the number of levels
+    uint8_t matrix[255];  // the columns of the check matrix
+};
+
+struct record {
+    size_t phase, row, digit, column, factor, count;
+};
+
+// The first column from the given one on with a one in the check row.
+static size_t next_held(const struct array *array, size_t row, size_t column)
+{
+    while (!(array->matrix[column] >> row & 1))
+        column++;
+    return column;
+}
+
+void loops_start(const struct array *array, struct record *record,
+                 uint8_t *counters, uint8_t *flags)
+{
+    memset(counters, 0, array->rows);
+    memset(flags, 0, array->rows);
+    *record = (struct record){
+        OPEN, 0, array->digits - 1, next_held(array, 0, 0), 1, 0,
+    };
+}
+
+// The record after the lookup that it stands at.
+static void advance(const struct array *array, struct record *record,
+                    size_t span, int ends_digit)
+{
+    size_t next = record->factor + 1;
+    if (next % array->radix == 0)
+        next++;
+    record->count++;
+    if (next < span) {
+        record->factor = next;
+        return;
+    }
+    record->factor = 1;
+    if (!ends_digit) {
+        record->column = next_held(array, record->row, record->column + 1);
+        return;
+    }
+    if (record->digit > 0) {
+        record->digit--;
+    } else if (record->row + 1 < array->checks) {
+        record->row++;
+        record->digit = array->digits - 1;
+    } else {
+        *record = (struct record){COMPLETE, 0, 0, 0, 0, record->count};
+        return;
+    }
+    record->column = next_held(array, record->row, 0);
+}
+
+uint8_t loops_step(const struct array *array, struct record *record,
+                   const uint8_t *restrict cells, uint8_t *restrict counters,
+                   uint8_t *restrict flags, uint8_t *restrict matches)
+{
+    size_t column = record->column;
+    if (record->phase != OPEN || record->row >= array->checks ||
+        record->digit >= array->digits || column >= array->columns ||
+        !(array->matrix[column] >> record->row & 1))
+        return 9;
+    size_t span = array->powers[array->digits - record->digit];
+    if (record->factor >= span || record->factor % array->radix == 0)
+        return 9;
+
+    size_t rows = array->rows, columns = array->columns;
+    uint8_t radix = (uint8_t)array->radix;
+    uint8_t input = (uint8_t)(record->factor * array->powers[record->digit]);
+    const uint8_t *cell = cells + column;
+    for (size_t i = 0; i < rows; i++, cell += columns)
+        matches[i] = *cell >= input;
+    for (size_t i = 0; i < rows; i++) {
+        uint8_t sum = (uint8_t)(counters[i] + matches[i]);
+        counters[i] = sum == radix ? 0 : sum;
+    }
+
+    int ends_digit =
+        column == array->width + record->row && record->factor + 1 == span;
+    if (ends_digit) {
+        for (size_t i = 0; i < rows; i++)
+            flags[i] = counters[i] ? 1 : flags[i];
+        if (record->digit == 0)
+            memset(counters, 0, rows);
+    }
+    advance(array, record, span, ends_digit);
+    return 0;
+}
+
+// The check cells of a row of n cells from its first k.
+void loops_encode(const struct array *array, uint8_t *row)
+{
+    uint16_t sums[8][8] = {{0}};
+    uint8_t radix = (uint8_t)array->radix;
+    for (size_t j = 0; j < array->width; j++) {
+        uint16_t digits[8] = {0};
+        uint8_t rest = row[j];
+        for (size_t s = 0; s < array->digits; s++) {
+            digits[s] = rest % radix;
+            rest /= radix;
+        }
+        for (size_t l = 0; l < array->checks; l++) {
+            if (array->matrix[j] >> l & 1)
+                for (size_t s = 0; s < 8; s++)
+                    sums[l][s] += digits[s];
+        }
+    }
+    for (size_t l = 0; l < array->checks; l++) {
+        unsigned level = 0;
+        for (size_t s = array->digits; s-- > 0;)
+            level = level * radix + (radix - sums[l][s] % radix) % radix;
+        row[array->width + l] = (uint8_t)level;
+    }
+}

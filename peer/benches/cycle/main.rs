@@ -1,0 +1,358 @@
+//! Times of three builds side by side: the proved library, this build in safe
+//! Rust, and plain loops in C (loops.c says what these leave out). All three
+//! work in turn on the same buffers, which are set to the same bytes before
+//! each run, and must leave the same bytes. A run is timed in pieces; of each
+//! piece the least time of several runs counts. Words given after `--` choose
+//! the lines whose title has one of them.
+
+mod in_c;
+#[path = "../../tests/proved_calls/mod.rs"]
+mod proved_calls;
+
+use std::time::{Duration, Instant};
+
+use peer::random::Random;
+use peer::{Cycle, Phase, Shape};
+use proved_calls::Words;
+
+/// The least time that is spent on each line of the table.
+const PATIENCE: Duration = Duration::from_secs(1);
+
+/// The least number of runs.
+const RUNS: usize = 7;
+
+/// The steps of one piece, and the rows of one piece of the encoder.
+const PIECE: usize = 40;
+
+#[derive(Clone, Copy, PartialEq, Eq)]
+enum Build {
+    Proved,
+    Rust,
+    C,
+}
+
+const BUILDS: [Build; 3] = [Build::Proved, Build::Rust, Build::C];
+
+/// All that a run works on.
+#[derive(Clone, PartialEq, Eq)]
+struct State {
+    words: Words,
+    cells: Vec<u8>,
+    counters: Vec<u8>,
+    flags: Vec<u8>,
+    matches: Vec<u8>,
+}
+
+impl State {
+    fn copy_from(&mut self, other: &State) {
+        self.words = other.words;
+        self.cells.copy_from_slice(&other.cells);
+        self.counters.copy_from_slice(&other.counters);
+        self.flags.copy_from_slice(&other.flags);
+        self.matches.copy_from_slice(&other.matches);
+    }
+}
+
+/// What is timed.
+#[derive(Clone, Copy)]
+enum Work {
+    /// A start and so many steps, one call for each.
+    Steps(usize),
+    /// The check cells of all rows, one call for each.
+    Encode,
+}
+
+fn main() {
+    heading();
+    for errors in [1, 2, 3] {
+        let shape = shape(2, 3, errors, 50, 512);
+        line("cycle, Example 1", shape, whole(shape));
+    }
+    let largest = shape(2, 8, 2, 247, 4096);
+    line("first steps", largest, Work::Steps(2_000));
+    line("encoder", largest, Work::Encode);
+    for rows in [64, 512, 4096] {
+        let shape = shape(2, 3, 2, 50, rows);
+        line("cycle, more rows", shape, whole(shape));
+    }
+    for width in [50, 120, 247] {
+        let shape = shape(2, 3, 2, width, 512);
+        line("1,000 steps, wider", shape, Work::Steps(1_000));
+    }
+}
+
+fn shape(radix: usize, digits: usize, errors: usize, width: usize, rows: usize) -> Shape {
+    Shape {
+        radix,
+        digits,
+        errors,
+        width,
+        rows,
+    }
+}
+
+/// A whole cycle.
+fn whole(shape: Shape) -> Work {
+    Work::Steps(shape.layout().expect("a good shape").lookups())
+}
+
+fn heading() {
+    match in_c::COMPILER {
+        Some(compiler) => println!("C: {compiler} -O3"),
+        None => println!("C: no compiler was found"),
+    }
+    println!(
+        "{:55} | {:^29} | {:^29} | {:^13}",
+        "", "microseconds", "ns per row (and step)", "proved /"
+    );
+    print!("{:18} radix digits errors width rows calls |", "work");
+    for _ in 0..2 {
+        print!(" {:>9} {:>9} {:>9} |", "proved", "Rust", "C");
+    }
+    println!(" {:>6} {:>6}", "Rust", "C");
+}
+
+/// Times one work and prints its line.
+fn line(title: &str, shape: Shape, work: Work) {
+    if !chosen(title) {
+        return;
+    }
+    let [proved, rust, c] = times(shape, work);
+    let (calls, row_steps) = match work {
+        Work::Steps(steps) => (steps, steps * shape.rows),
+        Work::Encode => (shape.rows, shape.rows),
+    };
+    let Shape {
+        radix,
+        digits,
+        errors,
+        width,
+        rows,
+    } = shape;
+    print!("{title:18} {radix:5} {digits:6} {errors:6} {width:5} {rows:4} {calls:5} |");
+    for time in [proved, rust, c] {
+        print!(" {}", cell(9, 1, time.map(micros)));
+    }
+    print!(" |");
+    for time in [proved, rust, c] {
+        let each = time.map(|time| micros(time) * 1e3 / row_steps as f64);
+        print!(" {}", cell(9, 3, each));
+    }
+    print!(" |");
+    for other in [rust, c] {
+        let ratio = proved.zip(other).map(|(a, b)| micros(a) / micros(b));
+        print!(" {}", cell(6, 2, ratio));
+    }
+    println!();
+}
+
+/// Whether the words of the command line choose the title.
+fn chosen(title: &str) -> bool {
+    let mut words = std::env::args()
+        .skip(1)
+        .filter(|word| !word.starts_with('-'))
+        .peekable();
+    words.peek().is_none() || words.any(|word| title.contains(&word))
+}
+
+fn micros(time: Duration) -> f64 {
+    time.as_secs_f64() * 1e6
+}
+
+/// A number of the table, or a dash.
+fn cell(width: usize, places: usize, number: Option<f64>) -> String {
+    match number {
+        Some(number) => format!("{number:width$.places$}"),
+        None => format!("{:>width$}", "-"),
+    }
+}
+
+/// The least time of each build, none for C where it is not there.
+fn times(shape: Shape, work: Work) -> [Option<Duration>; 3] {
+    let begin = match work {
+        Work::Steps(_) => drifted(shape),
+        Work::Encode => unencoded(shape),
+    };
+    let mut state = begin.clone();
+    let mut end: Option<State> = None;
+    let mut least: [Vec<Duration>; 3] = Default::default();
+    let clock = Instant::now();
+    let mut runs = 0;
+    while runs < RUNS || clock.elapsed() < PATIENCE {
+        runs += 1;
+        for (build, least) in BUILDS.into_iter().zip(&mut least) {
+            if build == Build::C && !in_c::THERE {
+                continue;
+            }
+            state.copy_from(&begin);
+            let pieces = run(build, shape, work, &mut state);
+            if least.is_empty() {
+                least.clone_from(&pieces);
+            }
+            for (least, time) in least.iter_mut().zip(pieces) {
+                *least = time.min(*least);
+            }
+            let end = end.get_or_insert_with(|| state.clone());
+            assert!(state == *end, "the builds leave different bytes");
+        }
+    }
+    if let (Some(end), Work::Steps(steps)) = (end, work) {
+        check_end(&begin, &end, steps, shape);
+    }
+    least.map(|pieces| (!pieces.is_empty()).then(|| pieces.iter().sum()))
+}
+
+/// All steps were made; a whole cycle flags the rows that drifted.
+fn check_end(begin: &State, end: &State, steps: usize, shape: Shape) {
+    assert_eq!(end.words[5], steps);
+    if steps == shape.layout().expect("a good shape").lookups() {
+        let sound = |row| peer::sound(shape, &begin.cells, row).expect("a good row");
+        for (row, &flag) in end.flags.iter().enumerate() {
+            assert_eq!(flag == 0, sound(row));
+        }
+    }
+}
+
+/// One run: the times of its pieces.
+fn run(build: Build, shape: Shape, work: Work, state: &mut State) -> Vec<Duration> {
+    match (work, build) {
+        (Work::Steps(steps), Build::Proved) => proved_steps(shape, steps, state),
+        (Work::Steps(steps), Build::Rust) => rust_steps(shape, steps, state),
+        (Work::Steps(steps), Build::C) => c_steps(shape, steps, state),
+        (Work::Encode, _) => encode(build, shape, state),
+    }
+}
+
+/// The times of all pieces of a work, which is told how much of it to do.
+fn timed(all: usize, mut work: impl FnMut(usize)) -> Vec<Duration> {
+    (0..all)
+        .step_by(PIECE)
+        .map(|done| {
+            let clock = Instant::now();
+            work(PIECE.min(all - done));
+            clock.elapsed()
+        })
+        .collect()
+}
+
+fn proved_steps(shape: Shape, steps: usize, state: &mut State) -> Vec<Duration> {
+    let State {
+        words,
+        cells,
+        counters,
+        flags,
+        matches,
+    } = state;
+    let mut number = 0;
+    let mut pieces = timed(1, |_| {
+        number |= proved_calls::start(words, shape, counters, flags)
+    });
+    pieces.extend(timed(steps, |steps| {
+        for _ in 0..steps {
+            number |= proved_calls::step(words, shape, cells, counters, flags, matches);
+        }
+    }));
+    assert_eq!(number, 0);
+    pieces
+}
+
+fn rust_steps(shape: Shape, steps: usize, state: &mut State) -> Vec<Duration> {
+    let State {
+        words,
+        cells,
+        counters,
+        flags,
+        matches,
+    } = state;
+    let mut now = (Cycle::IDLE, Ok(()));
+    let mut pieces = timed(1, |_| now = peer::start(shape, counters, flags, now.0));
+    pieces.extend(timed(steps, |steps| {
+        for _ in 0..steps {
+            let next = peer::step(shape, cells, counters, flags, matches, now.0);
+            now = (next.0, now.1.and(next.1));
+        }
+    }));
+    assert_eq!(now.1, Ok(()));
+    *words = words_of(now.0);
+    pieces
+}
+
+fn words_of(cycle: Cycle) -> Words {
+    let phase = match cycle.phase {
+        Phase::Idle => 0,
+        Phase::Open => 1,
+        Phase::Complete => 2,
+    };
+    [
+        phase,
+        cycle.row,
+        cycle.digit,
+        cycle.column,
+        cycle.factor,
+        cycle.count,
+    ]
+}
+
+fn c_steps(shape: Shape, steps: usize, state: &mut State) -> Vec<Duration> {
+    let State {
+        words,
+        cells,
+        counters,
+        flags,
+        matches,
+    } = state;
+    let array = in_c::Array::new(shape);
+    let mut pieces = timed(1, |_| in_c::start(&array, words, counters, flags));
+    pieces.extend(timed(steps, |steps| {
+        in_c::steps(&array, words, cells, [counters, flags, matches], steps);
+    }));
+    pieces
+}
+
+fn encode(build: Build, shape: Shape, state: &mut State) -> Vec<Duration> {
+    let array = in_c::Array::new(shape);
+    let columns = shape.layout().expect("a good shape").columns();
+    let mut rows = state.cells.chunks_exact_mut(columns);
+    timed(shape.rows, |count| {
+        let rows = rows.by_ref().take(count);
+        match build {
+            Build::Proved => rows.for_each(|row| assert_eq!(proved_calls::encode(shape, row), 0)),
+            Build::Rust => rows.for_each(|row| assert_eq!(peer::encode_row(shape, row), Ok(()))),
+            Build::C => rows.for_each(|row| in_c::encode(&array, row)),
+        }
+    })
+}
+
+/// Rows of random levels, with any bytes in their check cells.
+fn unencoded(shape: Shape) -> State {
+    let layout = shape.layout().expect("a good shape");
+    let mut random = Random::new(15);
+    let mut cells = Vec::new();
+    for _ in 0..shape.rows {
+        cells.extend(random.levels(layout.levels(), shape.width));
+        cells.extend(random.bytes(layout.checks()));
+    }
+    State {
+        words: [0; 6],
+        cells,
+        counters: vec![0; shape.rows],
+        flags: vec![0; shape.rows],
+        matches: vec![0; shape.rows],
+    }
+}
+
+/// Rows of random levels with their check cells; in every 16th one cell has
+/// drifted.
+fn drifted(shape: Shape) -> State {
+    let layout = shape.layout().expect("a good shape");
+    let mut state = unencoded(shape);
+    let mut random = Random::new(16);
+    for (number, row) in state.cells.chunks_exact_mut(layout.columns()).enumerate() {
+        peer::encode(&layout, row);
+        if number % 16 == 5 {
+            let column = random.below(layout.columns());
+            row[column] ^= 1;
+        }
+    }
+    state
+}
