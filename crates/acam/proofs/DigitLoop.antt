@@ -3,7 +3,7 @@
 use mathlib.Core.Path.{_≡_, sym, _∙_, ap}
 use mathlib.Core.List.{List}
 use Prim.Native.Nat.{ℕ, suc, _+_, _*_, _/_, _%_, _^_, _≤_, _<_}
-use native.Mathlib.Nat.{pow-suc, pow-le-pow-right, one-le-pow}
+use native.Mathlib.Nat.{pow-suc, pow-le-pow-right, one-le-pow, mul-le-mul-left}
 use native.Mathlib.Numerals.{add-one}
 use native.Mathlib.Omega.{arith}
 use lib.ListN.{length, getD}
@@ -39,13 +39,14 @@ module _ (shape : Shape) (t : Taken shape) (s : ℕ) where
 
     -- the sums can be asked for
     pub sums-ready :
-        (cs cells : List ℕ) → cs ≡ matrixArray shape → length cells ≤ columns shape
-        → (((0 < shape .radix) × (shape .radix ≤ 256)) × (0 < power)) × ((length cells ≤ length cs) × (length cs ≤ 255))
-    sums-ready cs cells given few =
+        s < shape .digits → (cs cells : List ℕ) → cs ≡ matrixArray shape → length cells ≤ columns shape
+        → (((0 < shape .radix) × (shape .radix ≤ 256)) × ((0 < power) × (power ≤ 256))) × ((length cells ≤ length cs) × (length cs ≤ 255))
+    sums-ready h cs cells given few =
         let within = limits shape t in
         let pos : 0 < power = rw e (one-le-pow s (shape .radix) (omega arith)) in
+        let more : power * 1 ≤ power * shape .radix = mul-le-mul-left power (omega arith) in
         let sized : length cs ≡ 255 = ap length given ∙ array-sized shape t in
-        omega (arith, columns-high shape t)
+        omega (arith, power-fits h, columns-high shape t)
 
 -- the sum of check row ℓ among those of the eight
 pub sum-at :

@@ -1,6 +1,8 @@
 -- What the calls on the check matrix give.
+use mathlib.Core.Bool.{Bool, cond, _&&_}
 use mathlib.Core.List.{List, [], _∷_, _++_}
-use Prim.Native.Nat.{ℕ, _-_}
+use Prim.Native.Nat.{ℕ, zero, suc, _+_, _-_, _%_}
+use lib.Dec.{eqb, leb}
 use lib.ListN.{getD, replicate}
 use Rattle.parity.specs.Shape.{columns}
 use Rattle.parity.specs.Matrix.{matrix, matrixOnes}
@@ -8,6 +10,16 @@ use Rattle.parity.specs.Questions.{firstNo, shapeQuestions, placeQuestion}
 use Rattle.parity.specs.declared.Shape.{Shape}
 use Rattle.limits.specs.declared.answer.Answer.{Answer}
 use Rattle.limits.specs.Answers.{answer}
+
+-- the numbers below 2^r with w ones
+unfoldable pub choose : ℕ → ℕ → ℕ
+choose r zero = 1
+choose zero (suc w) = 0
+choose (suc r) (suc w) = choose r w + choose r (suc w)
+
+-- the weights of the columns that can be rule columns, for τ = 2 and τ = 3
+abbrev pub ruleWeight : ℕ → ℕ → Bool
+ruleWeight τ w = cond (eqb τ 2) (leb 2 w) (leb 3 w && eqb (w % 2) 1)
 
 -- the check matrix in an array of 255 bytes, 0 behind it
 unfoldable pub matrixArray : Shape → List ℕ

@@ -1,57 +1,64 @@
 // The columns of a shape's check matrix: the rule columns, then the check columns.
-use super::order::in_order;
-use super::order::ones;
+use super::order::choices;
+use super::order::column_order;
 use super::order::power_of_two;
 use limits::answer::Answer;
+use limits::byte::copy;
 use limits::byte::fill;
 use limits::byte::wide;
 use limits::shape::Checked;
 use limits::shape::check_shape;
 use parity::Shape;
 ghost use mathlib.Core.Path.{_≡_};
-ghost use Prim.Native.Nat.{_+_, _^_, _≤_, _<_};
-ghost use lib.ListN.{length, getD};
+ghost use mathlib.Core.Bool.{cond};
+ghost use Prim.Native.Nat.{_≤_};
+ghost use lib.ListN.{length};
 ghost use Rattle.parity.specs.Lists.{keep, filledFrom};
 ghost use Rattle.parity.specs.Questions.{Taken};
 ghost use Rattle.parity.specs.Shape.{checks as checksOf};
 ghost use Rattle.parity.specs.Matrix.{columnOrder, eligible, ruleColumns, checkColumns};
-ghost use Rattle.matrix.specs.Matrices.{matrixArray, columnAnswer};
+ghost use Rattle.matrix.specs.Matrices.{ruleWeight, matrixArray, columnAnswer};
 
-// Whether a column can be a rule column beside r check columns, for τ = 2 and 3.
-fn can_be_rule(errors: usize, checks: usize, column: u8) -> bool
-    requires { ⌜ checks ≤ 8 ⌝ }
-    ensures { λ r. ⌜ r ≡ eligible errors checks column ⌝ }
+// How many of a weight's columns can be rule columns, for τ = 2 and 3: all of them or none.
+fn count_rules(errors: usize, weight: usize, columns: u8) -> usize
+    ensures { λ r. ⌜ r ≡ cond (ruleWeight errors weight) columns 0 ⌝ }
 {
-    if power_of_two(checks) <= wide(column) {
-        return false;
-    }
-    let weight = ones(column);
     if errors == 2 {
-        return 2 <= weight;
+        if weight < 2 {
+            return 0;
+        }
+        return wide(columns);
     }
     if weight < 3 {
-        return false;
+        return 0;
     }
-    weight % 2 == 1
+    if weight % 2 == 1 {
+        return wide(columns);
+    }
+    0
 }
 
-// The lightest eligible columns, as many as the part holds.
+// The lightest eligible columns, as many as the part holds: of each weight, the columns below 2^r come first.
 fn fill_lightest(part: &mut [u8], errors: usize, checks: usize)
     requires { ⌜ checks ≤ 8 ⌝ }
     ensures { λ _. ⌜ now (part .exit) ≡ filledFrom (keep (eligible errors checks) columnOrder) (now (part .entry)) ⌝ }
 {
+    let order = column_order();
+    let below = choices(checks);
+    let all = choices(8);
     let mut found: usize = 0;
     let mut place: usize = 0;
-    while place < 255 {
-        if found == part.len() {
+    let mut w: usize = 0;
+    while w < 8 {
+        let count = count_rules(errors, w + 1, below[w]);
+        let to = place + count;
+        copy(&order[place..to], &mut part[found..]);
+        if part.len() - found <= count {
             return;
         }
-        let column = in_order(place);
-        if can_be_rule(errors, checks, column) {
-            part[found] = column;
-            found += 1;
-        }
-        place += 1;
+        found += count;
+        place += wide(all[w]);
+        w += 1;
     }
 }
 

@@ -1,8 +1,9 @@
 // The order of the columns, fewest ones first, and the ones of a column.
 ghost use mathlib.Core.Path.{_≡_};
-ghost use Prim.Native.Nat.{_^_, _≤_, _<_};
-ghost use lib.ListN.{getD};
+ghost use Prim.Native.Nat.{suc, _^_, _≤_};
+ghost use Rattle.parity.specs.Lists.{tabulate};
 ghost use Rattle.parity.specs.Matrix.{weight, columnOrder};
+ghost use Rattle.matrix.specs.Matrices.{choose};
 
 // The 255 nonzero bytes, fewest ones first, and increasing among equals.
 const ORDER: [u8; 255] = [
@@ -263,11 +264,31 @@ const ORDER: [u8; 255] = [
     255,
 ];
 
-pub(crate) fn in_order(place: usize) -> u8
-    requires { ⌜ place < 255 ⌝ }
-    ensures { λ r. ⌜ r ≡ getD columnOrder place 0 ⌝ }
+// The table is written anew at each call, so it is taken once and then read.
+pub(crate) fn column_order() -> [u8; 255]
+    ensures { λ r. ⌜ r ≡ columnOrder ⌝ }
 {
-    ORDER[place]
+    ORDER
+}
+
+// Row r: how many of the numbers below 2^r have 1, 2, .., 8 ones.
+const CHOICES: [[u8; 8]; 9] = [
+    [0, 0, 0, 0, 0, 0, 0, 0],
+    [1, 0, 0, 0, 0, 0, 0, 0],
+    [2, 1, 0, 0, 0, 0, 0, 0],
+    [3, 3, 1, 0, 0, 0, 0, 0],
+    [4, 6, 4, 1, 0, 0, 0, 0],
+    [5, 10, 10, 5, 1, 0, 0, 0],
+    [6, 15, 20, 15, 6, 1, 0, 0],
+    [7, 21, 35, 35, 21, 7, 1, 0],
+    [8, 28, 56, 70, 56, 28, 8, 1],
+];
+
+pub(crate) fn choices(checks: usize) -> [u8; 8]
+    requires { ⌜ checks ≤ 8 ⌝ }
+    ensures { λ r. ⌜ r ≡ tabulate 8 (λ w. choose checks (suc w)) ⌝ }
+{
+    CHOICES[checks]
 }
 
 // The ones of a column.

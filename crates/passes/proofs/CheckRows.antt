@@ -1,18 +1,20 @@
 -- The columns of a check row, one after the other: the ones counted, and the next one found. Assumes nothing.
-use mathlib.Core.Path.{_≡_, refl, ap, _∙_}
+use mathlib.Core.Path.{_≡_, refl, sym, ap, _∙_}
 use mathlib.Core.Bool.{Bool, true, false, cond}
 use mathlib.Core.List.{List, [], _∷_}
 use Prim.Native.Nat.{ℕ, zero, suc, _+_, _-_, _*_, _/_, _%_, _^_, _≤_, _<_}
 use native.Mathlib.Omega.{arith}
+use lib.Bits.{bitAnd, and-high}
 use lib.Dec.{eqb}
 use lib.ListN.{length, getD, take}
+use lib.Pow.{pow-pos, pow-add}
 use lib.Seq.{take-suc, take-all}
 use borrow.Author.Tests.{eqb-true, eqb-false, eq-eqb, ne-eqb}
 use Rattle.parity.specs.Lists.{sumOver, sumTo, firstFrom}
 use Rattle.parity.specs.Shape.{digit}
 use Rattle.parity.specs.Matrix.{bit, placesFrom}
 use Rattle.parity.proofs.Sums.{bit-below, bit-zero}
-use Rattle.matrix.proofs.MatrixOnes.{places-length, sumTo-add}
+use Rattle.matrix.proofs.MatrixOnes.{places-length}
 use Rattle.schedule.proofs.Sums.{sum-append}
 
 -- how many of the first j columns have a one in check row ℓ
@@ -41,6 +43,27 @@ pub bit-tested : (ℓ c bound number : ℕ) → bound ≡ 2 ^ ℓ → number ≡
 unfolding digit
 bit-tested ℓ c bound number e f = rw (e, f)
 
+-- what a column shares with 2^ℓ, the mask of check row ℓ, tells the bit too
+masked : (ℓ c mask : ℕ) → mask ≡ 2 ^ ℓ → bitAnd c mask ≡ bit ℓ c * 2 ^ ℓ
+unfolding digit
+masked ℓ c mask e =
+    let top : mask ≡ 2 ^ (1 + ℓ) - 2 ^ ℓ = omega (arith, e, pow-add 2 1 ℓ) in
+    ap (bitAnd c) top ∙ and-high c 1 ℓ
+
+pub masked-one : (ℓ c mask : ℕ) → mask ≡ 2 ^ ℓ → (bitAnd c mask ≡ 0 → ⊥) → bit ℓ c ≡ 1
+masked-one ℓ c mask e some = go (bit ℓ c) (bit-below ℓ c) (masked ℓ c mask e)
+  where
+    go : (b : ℕ) → b < 2 → bitAnd c mask ≡ b * 2 ^ ℓ → b ≡ 1
+    go zero h q = absurd (some (omega arith))
+    go (suc b) h q = omega arith
+
+pub masked-none : (ℓ c mask : ℕ) → mask ≡ 2 ^ ℓ → bitAnd c mask ≡ 0 → bit ℓ c ≡ 0
+masked-none ℓ c mask e none = go (bit ℓ c) (sym (masked ℓ c mask e) ∙ none)
+  where
+    go : (b : ℕ) → b * 2 ^ ℓ ≡ 0 → b ≡ 0
+    go zero q = refl
+    go (suc b) q = absurd (omega (arith, pow-pos ℓ))
+
 -- ---- one column more
 
 pub before-next : (cs : List ℕ) (ℓ j : ℕ) → j < length cs → onesBefore cs ℓ (suc j) ≡ onesBefore cs ℓ j + bit ℓ (getD cs j 0)
@@ -53,12 +76,6 @@ before-next cs ℓ j h =
     )
 
 module _ (cs : List ℕ) (ℓ j : ℕ) where
-  pub before-rows-next :
-      j < length cs
-      → sumTo ℓ (λ l. onesBefore cs l (suc j)) ≡ sumTo ℓ (λ l. onesBefore cs l j) + sumTo ℓ (λ l. bit l (getD cs j 0))
-  before-rows-next h =
-      ap (sumTo ℓ) (λ i l. before-next cs l j h i) ∙ sumTo-add ℓ (λ l. onesBefore cs l j) (λ l. bit l (getD cs j 0))
-
   pub before-all : length cs ≤ j → onesBefore cs ℓ j ≡ length (placesFrom 0 ℓ cs)
   before-all h = ap (λ ds. length (placesFrom 0 ℓ ds)) (take-all j cs h)
 

@@ -1,4 +1,4 @@
--- What one pass over the columns tells of a check row and a column.
+-- What the columns tell of a check row and a column.
 use mathlib.Core.List.{List}
 use Prim.Native.Nat.{ℕ}
 use lib.ListN.{length, take}

@@ -1,8 +1,9 @@
 -- The spans q / ρ^d of the digits: q at digit 0, each ρ times the next, and 1 past the last digit. Assumes nothing.
 use mathlib.Core.Path.{_≡_, sym, ap, _∙_}
-use Prim.Native.Nat.{ℕ, suc, _*_, _/_, _^_, _≤_, _<_}
-use native.Mathlib.Nat.{div-self, div-one, div-le-self, div-div-eq-div-mul, pow-zero, pow-suc, one-le-pow}
+use Prim.Native.Nat.{ℕ, suc, _+_, _-_, _*_, _/_, _^_, _≤_, _<_}
+use native.Mathlib.Nat.{div-self, div-one, mul-div-cancel, div-le-self, pow-zero, one-le-pow}
 use native.Mathlib.Omega.{arith}
+use lib.Pow.{pow-add}
 use Rattle.parity.specs.Shape.{levels}
 use Rattle.parity.specs.Questions.{Taken}
 use Rattle.parity.specs.declared.Shape.{Shape}
@@ -16,10 +17,6 @@ module _ (s : Shape) where
   pub span-first : span s 0 ≡ levels s
   unfolding span
   span-first = rw (pow-zero, div-one)
-
-  pub span-next : (d : ℕ) → span s d / s .radix ≡ span s (suc d)
-  unfolding span
-  span-next d = div-div-eq-div-mul (levels s) (s .radix ^ d) (s .radix) ∙ ap (λ x. levels s / x) (sym (pow-suc (s .radix) d))
 
 module _ (s : Shape) (t : Taken s) where
   two : 2 ≤ s .radix
@@ -37,6 +34,17 @@ module _ (s : Shape) (t : Taken s) where
     pub span-times : span s d ≡ span s (suc d) * s .radix
     unfolding span levels
     span-times = quotient-next (s .radix) (s .digits) (omega (arith, two)) d h
+
+    -- the next span as the code makes it
+    pub span-power : s .radix ^ (s .digits - d - 1) ≡ span s (suc d)
+    unfolding span levels
+    span-power =
+        let ρ = s .radix in
+        let parts : s .digits ≡ s .digits - d - 1 + suc d = omega arith in
+        sym
+        (ap (λ b. ρ ^ b / ρ ^ suc d) parts
+        ∙ ap (λ p. p / ρ ^ suc d) (pow-add ρ (s .digits - d - 1) (suc d))
+        ∙ mul-div-cancel (ρ ^ (s .digits - d - 1)) (one-le-pow (suc d) ρ (omega (arith, two))))
 
     -- a digit has a factor, so the next span is less
     pub span-less : (0 < span s (suc d)) × (span s (suc d) < span s d)

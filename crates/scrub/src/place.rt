@@ -10,7 +10,7 @@ use passes::columns::survey_row;
 use passes::factors::index_of;
 use passes::factors::is_factor;
 use passes::factors::next_factor;
-use passes::factors::span_of;
+use passes::factors::scale;
 ghost use mathlib.Core.Path.{_≡_};
 ghost use mathlib.Core.Bool.{true};
 ghost use Prim.Native.Nat.{suc};
@@ -61,12 +61,13 @@ pub(crate) fn locate(cycle: Cycle, shape: Shape, sizes: Sizes, columns: &[u8]) -
     if wide(columns[column]) / power_of_two(row) % 2 == 0 {
         return Located::Elsewhere;
     }
-    let span = span_of(levels, radix, digit);
+    let next = scale(1, radix, shape.digits - digit - 1);
+    let span = next * radix;
     if !is_factor(factor, span, radix) {
         return Located::Elsewhere;
     }
     let survey = survey_row(columns, row, column);
-    if index_of(levels, radix, factor, span, survey) != cycle.count {
+    if index_of(levels, radix, factor, next, survey) != cycle.count {
         return Located::Elsewhere;
     }
     Located::At(Standing {

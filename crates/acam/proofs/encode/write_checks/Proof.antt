@@ -125,8 +125,8 @@ digit-sums-requires c κs =
     let start = c .before .before .before .before .before .before .before .before .before in
     let loop = c .before .before .before .loop in
     let k = start .args .shape .width in
-    sums-ready (start .args .shape) (start .pre .0) (loop .s) (loop .power) (loop .inv .1) (start .args .columns .now) (take k (loop .row)) (start .pre .2)
-    (omega (arith, length-take k (loop .row)))
+    sums-ready (start .args .shape) (start .pre .0) (loop .s) (loop .power) (loop .inv .1) (omega arith) (start .args .columns .now) (take k (loop .row))
+    (start .pre .2) (omega (arith, length-take k (loop .row)))
 
 turn :
     (c : tie.After-digit-sums Inv-loop μ-loop)

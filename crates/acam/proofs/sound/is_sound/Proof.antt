@@ -79,8 +79,8 @@ digit-sums-requires : tie.Need-digit-sums-requires Inv-loop μ-loop
 digit-sums-requires c κs =
     let start = c .before .before .before .before .before .before in
     let loop = c .before .before .loop in
-    sums-ready (start .args .shape) (start .pre .0 .0) (loop .s) (loop .power) (loop .inv .1) (start .args .columns .now) (start .args .row .now)
-    (start .pre .1 .1) (omega arith)
+    sums-ready (start .args .shape) (start .pre .0 .0) (loop .s) (loop .power) (loop .inv .1) (omega arith) (start .args .columns .now)
+    (start .args .row .now) (start .pre .1 .1) (omega arith)
 
 all-balanced-requires : tie.Need-all-balanced-requires Inv-loop μ-loop
 all-balanced-requires c κs =

@@ -2,12 +2,11 @@
 -- Assumes nothing.
 use mathlib.Core.Path.{_≡_, refl, sym, _∙_, ap, ap₂}
 use mathlib.Core.List.{List}
-use Prim.Native.Nat.{ℕ, _+_, _-_, _*_, _/_, _%_, _^_, _≤_, _<_}
-use native.Mathlib.Nat.{div-one, div-div-eq-div-mul, pow-suc, mul-le-mul}
+use Prim.Native.Nat.{ℕ, _+_, _-_, _*_, _/_, _%_, _^_, _≤_}
+use native.Mathlib.Nat.{div-one, div-div-eq-div-mul, pow-suc, mul-le-mul-right}
 use native.Mathlib.Numerals.{add-one}
 use native.Mathlib.Omega.{arith}
 use lib.ListN.{length, getD, set}
-use borrow.Author.Needs.{needs}
 use Rattle.parity.specs.Lists.{tabulate}
 use Rattle.parity.specs.Shape.{digit}
 use Rattle.parity.specs.Matrix.{bit}
@@ -23,8 +22,8 @@ added sums column d l = getD sums l 0 + bit l column * d
 unwritten : (f : ℕ → ℕ) (old new : List ℕ) (l : ℕ) → new ≡ filled f old l → getD new l 0 ≡ getD old l 0
 unwritten f old new l e = ap (λ xs. getD xs l 0) e ∙ filled-here f old l 0
 
-bit-times : (rest d : ℕ) → d < 256 → rest % 2 * d ≤ 256
-bit-times rest d h = omega (arith, mul-le-mul {n₁ = rest % 2} {m₁ = d} {n₂ = 1} {m₂ = 256} (omega arith) (omega arith))
+bit-times : (rest d : ℕ) → rest % 2 * d ≤ d
+bit-times rest d = omega (arith, mul-le-mul-right {m = rest % 2} {n = 1} d (omega arith))
 
 -- the column's bits from l + 1 on
 shift : (column l : ℕ) → column / 2 ^ l / 2 ≡ column / 2 ^ (l + 1)
@@ -36,11 +35,8 @@ Inv-loop sums₀ column digit rest₀ l₀ sums rest l = (l ≤ 8) × (sums ≡ 
 abbrev μ-loop : tie.MeasureT-loop
 μ-loop sums₀ column digit rest₀ l₀ sums rest l = 8 - l
 
-wide-requires : tie.Need-wide-requires Inv-loop μ-loop
-wide-requires c κs = search needs
-
 loop-holds : tie.Need-loop-holds Inv-loop μ-loop
-loop-holds c = (omega arith, refl, c .wide .ensures ∙ sym (div-one (c .before .args .column)))
+loop-holds c = (omega arith, refl, sym (div-one (c .args .column)))
 
 mul-sums : tie.Need-mul-sums Inv-loop μ-loop
 mul-sums c = omega arith
@@ -49,18 +45,17 @@ element-copy-out-sums : tie.Need-element-copy-out-sums Inv-loop μ-loop
 element-copy-out-sums c = omega arith
 
 mul-sums-2 : tie.Need-mul-sums-2 Inv-loop μ-loop
-mul-sums-2 c =
-    omega (arith, bit-times (c .before .before .loop .rest) (c .before .before .before .before .args .digit) (omega arith))
+mul-sums-2 c = omega (arith, bit-times (c .before .before .loop .rest) (c .before .before .before .args .digit))
 
 add-sums : tie.Need-add-sums Inv-loop μ-loop
 add-sums c =
-    let args = c .before .before .before .before .args in
+    let args = c .before .before .before .args in
     let loop = c .before .before .loop in
     omega (
       arith,
-      bit-times (loop .rest) (args .digit) (omega arith),
+      bit-times (loop .rest) (args .digit),
       unwritten (added (args .sums .now) (args .column) (args .digit)) (args .sums .now) (loop .sums) (loop .l) (loop .inv .1),
-      c .before .before .before .before .pre .2 (loop .l) (omega arith),
+      c .before .before .before .pre .1 (loop .l) (omega arith),
     )
 
 mul-sums-3 : tie.Need-mul-sums-3 Inv-loop μ-loop
@@ -78,7 +73,7 @@ loop-less c = omega arith
 loop-again : tie.Need-loop-again Inv-loop μ-loop
 unfolding digit
 loop-again c =
-    let args = c .before .before .before .before .args in
+    let args = c .before .before .before .args in
     let loop = c .before .before .loop in
     let f : ℕ → ℕ = added (args .sums .now) (args .column) (args .digit) in (
       omega arith,
@@ -90,7 +85,7 @@ loop-again c =
 
 returns : tie.Need-returns Inv-loop μ-loop
 returns c =
-    let args = c .before .before .before .args in
+    let args = c .before .before .args in
     let f : ℕ → ℕ = added (args .sums .now) (args .column) (args .digit) in
     let sized : length (args .sums .now) ≡ 8 = omega arith in
     c .before .loop .inv .1 ∙ filled-all f (args .sums .now) (c .before .loop .l) (omega arith) ∙ ap (λ n. tabulate n f) sized
@@ -101,7 +96,6 @@ add-digit-spec =
     (tie.spec
     Inv-loop
     μ-loop
-    wide-requires
     loop-holds
     mul-sums
     element-copy-out-sums

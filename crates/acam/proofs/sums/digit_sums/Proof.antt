@@ -2,12 +2,11 @@
 use mathlib.Core.Path.{_≡_, refl, sym, _∙_, ap, ap₂}
 use mathlib.Core.List.{List}
 use Prim.Native.Nat.{ℕ, suc, _+_, _-_, _*_, _/_, _%_, _≤_, _<_}
-use native.Mathlib.Nat.{mod-lt}
+use native.Mathlib.Nat.{mod-lt, div-le-self, div-mul-le-self, mod-eq-sub-div-mul}
 use native.Mathlib.Numerals.{add-one}
 use native.Mathlib.Omega.{arith}
 use lib.ListN.{length, getD, take, length-take}
 use lib.Seq.{take-length}
-use borrow.Author.Needs.{needs}
 use Rattle.parity.specs.Lists.{tabulate}
 use Rattle.parity.specs.Matrix.{bit}
 use Rattle.parity.proofs.ListLaws.{getD-tabulate, tabulate-same}
@@ -31,8 +30,8 @@ abbrev grown : List ℕ → ℕ → ℕ → ℕ → ℕ
 grown sums column d l = getD sums l 0 + bit l column * d
 
 module _ (f : ℕ → ℕ) (columns cells : List ℕ) (j : ℕ) where
-  sums-below : ((v : ℕ) → f v ≤ 255) → length cells ≤ 255 → (l : ℕ) → l < 8 → getD (sumsOf f columns cells j) l 0 < 65536
-  sums-below small few l h =
+  sums-high : ((v : ℕ) → f v ≤ 255) → (l : ℕ) → l < 8 → getD (sumsOf f columns cells j) l 0 ≤ 255 * j
+  sums-high small l h =
       rw (getD-tabulate 8 (sumOf f columns cells j) l 0 h)
       (omega (arith, checkSum-high f 255 l (take j columns) (take j cells) small, length-take j cells))
 
@@ -49,37 +48,112 @@ digit-small : (radix power : ℕ) → 0 < radix → radix ≤ 256 → (v : ℕ) 
 digit-small radix power pos high v = omega (arith, mod-lt (v / power) pos)
 
 abbrev Inv-loop : tie.InvT-loop
-Inv-loop cells columns radix power sums₀ j₀ sums j = (j ≤ length cells) × (sums ≡ sumsOf (digitOf radix power) columns cells j)
+Inv-loop cells columns radix power by-power by-radix base sums₀ j₀ sums j = (j ≤ length cells) × (sums ≡ sumsOf (digitOf radix power) columns cells j)
 
 abbrev μ-loop : tie.MeasureT-loop
-μ-loop cells columns radix power sums₀ j₀ sums j = length cells - j
+μ-loop cells columns radix power by-power by-radix base sums₀ j₀ sums j = length cells - j
+
+div-by-power : tie.Need-div-by-power Inv-loop μ-loop
+div-by-power c = omega arith
+
+add-by-power : tie.Need-add-by-power Inv-loop μ-loop
+add-by-power c = omega (arith, div-le-self 65536 (c .before .before .args .power))
+
+cast-by-power : tie.Need-cast-by-power Inv-loop μ-loop
+cast-by-power c = omega (arith, div-le-self 65536 (c .before .before .args .power))
+
+div-by-radix : tie.Need-div-by-radix Inv-loop μ-loop
+div-by-radix c = omega arith
+
+add-by-radix : tie.Need-add-by-radix Inv-loop μ-loop
+add-by-radix c = omega (arith, div-le-self 65536 (c .before .before .args .radix))
+
+cast-by-radix : tie.Need-cast-by-radix Inv-loop μ-loop
+cast-by-radix c = omega (arith, div-le-self 65536 (c .before .before .args .radix))
+
+cast-base : tie.Need-cast-base Inv-loop μ-loop
+cast-base c = omega arith
 
 loop-holds : tie.Need-loop-holds Inv-loop μ-loop
 loop-holds c = (omega arith, refl)
 
-shared-slice-read-wide : tie.Need-shared-slice-read-wide Inv-loop μ-loop
-shared-slice-read-wide c = omega arith
+shared-slice-read-quotient : tie.Need-shared-slice-read-quotient Inv-loop μ-loop
+shared-slice-read-quotient c = omega arith
 
-wide-requires : tie.Need-wide-requires Inv-loop μ-loop
-wide-requires c κs = search needs
+cast-quotient : tie.Need-cast-quotient Inv-loop μ-loop
+cast-quotient c = omega (arith, c .shared-slice-known3 .given (c .before .before .loop .j))
 
-div-digit : tie.Need-div-digit Inv-loop μ-loop
-div-digit c = omega arith
+quotient-requires : tie.Need-quotient-requires Inv-loop μ-loop
+quotient-requires c κs =
+    omega (arith, c .shared-slice-known3 .given (c .before .before .loop .j), div-le-self 65536 (c .before .before .before .before .before .args .power))
 
-rem-digit : tie.Need-rem-digit Inv-loop μ-loop
-rem-digit c = omega arith
+-- what the first product makes of a cell
+high-is :
+    (c : tie.After-quotient Inv-loop μ-loop)
+    → let args = c .before .before .before .before .before .before .args in
+    c .quotient .result ≡ getD (args .cells .now) (c .before .before .before .loop .j) 0 / args .power
+high-is c = c .quotient .ensures (c .before .before .before .before .before .before .args .power) (omega arith) (omega arith) refl
+
+quotient-requires-2 : tie.Need-quotient-requires-2 Inv-loop μ-loop
+quotient-requires-2 c κs =
+    let args = c .before .before .before .before .before .before .args in
+    let j = c .before .before .before .loop .j in
+    omega (
+      arith,
+      high-is c,
+      c .before .shared-slice-known3 .given j,
+      div-le-self (getD (args .cells .now) j 0) (args .power),
+      div-le-self 65536 (args .radix),
+    )
+
+-- and the second
+low-is :
+    (c : tie.After-quotient2 Inv-loop μ-loop)
+    → c .quotient2 .result ≡ c .before .quotient .result / c .before .before .before .before .before .before .before .args .radix
+low-is c = c .quotient2 .ensures (c .before .before .before .before .before .before .before .args .radix) (omega arith) (omega arith) refl
+
+taken-off :
+    (c : tie.After-quotient2 Inv-loop μ-loop)
+    → c .quotient2 .result * c .before .before .before .before .before .before .before .args .radix ≤ c .before .quotient .result
+taken-off c = rw (low-is c) (div-mul-le-self (c .before .quotient .result) (c .before .before .before .before .before .before .before .args .radix))
+
+digit-is :
+    (c : tie.After-quotient2 Inv-loop μ-loop)
+    → let args = c .before .before .before .before .before .before .before .args in
+    c .before .quotient .result - c .quotient2 .result * args .radix
+    ≡ digitOf (args .radix) (args .power) (getD (args .cells .now) (c .before .before .before .before .loop .j) 0)
+digit-is c =
+    let radix = c .before .before .before .before .before .before .before .args .radix in
+    let high = c .before .quotient .result in
+    ap (λ x. high - x * radix) (low-is c) ∙ sym (mod-eq-sub-div-mul high radix) ∙ ap (λ x. x % radix) (high-is (c .before))
+
+mul-digit : tie.Need-mul-digit Inv-loop μ-loop
+mul-digit c = omega (arith, taken-off c)
+
+sub-digit : tie.Need-sub-digit Inv-loop μ-loop
+sub-digit c = taken-off c
+
+cast-digit : tie.Need-cast-digit Inv-loop μ-loop
+cast-digit c =
+    let args = c .before .before .before .before .before .before .before .args in
+    omega (arith, digit-is c, digit-small (args .radix) (args .power) (omega arith) (omega arith) (getD (args .cells .now) (c .before .before .before .before .loop .j) 0))
 
 shared-slice-read-add-digit : tie.Need-shared-slice-read-add-digit Inv-loop μ-loop
 shared-slice-read-add-digit c = omega arith
 
 add-digit-requires : tie.Need-add-digit-requires Inv-loop μ-loop
 add-digit-requires c κs =
-    let args = c .before .before .before .before .before .before .before .before .args in
-    let loop = c .before .before .before .before .before .loop in
+    let args = c .before .before .before .before .before .before .before .before .before .args in
+    let loop = c .before .before .before .before .before .before .loop in
     let small = digit-small (args .radix) (args .power) (omega arith) (omega arith) in (
       ap length (loop .inv .1),
-      omega (arith, small (c .before .before .wide .result)),
-      rw (loop .inv .1) (sums-below (digitOf (args .radix) (args .power)) (args .columns .now) (args .cells .now) (loop .j) small (omega arith)),
+      λ l h. omega (
+        arith,
+        digit-is (c .before .before),
+        small (getD (args .cells .now) (loop .j) 0),
+        ap (λ xs. getD xs l 0) (loop .inv .1),
+        sums-high (digitOf (args .radix) (args .power)) (args .columns .now) (args .cells .now) (loop .j) small l h,
+      ),
     )
 
 add-j : tie.Need-add-j Inv-loop μ-loop
@@ -90,22 +164,34 @@ loop-less c = omega arith
 
 loop-again : tie.Need-loop-again Inv-loop μ-loop
 loop-again c =
-    let args = c .before .before .before .before .before .before .before .before .before .args in
-    let loop = c .before .before .before .before .before .before .loop in
+    let args = c .before .before .before .before .before .before .before .before .before .before .args in
+    let loop = c .before .before .before .before .before .before .before .loop in
     let f : ℕ → ℕ = digitOf (args .radix) (args .power) in
     let column = getD (args .columns .now) (loop .j) 0 in (
       omega arith,
       c .add-digit .ensures
-          ∙ ap₂ (λ xs v. tabulate 8 (grown xs column (f v))) (loop .inv .1) (c .before .before .before .wide .ensures)
+          ∙ ap₂ (λ xs d. tabulate 8 (grown xs column d)) (loop .inv .1) (digit-is (c .before .before .before))
           ∙ sums-next f (args .columns .now) (args .cells .now) (loop .j) (omega arith) (omega arith),
+    )
+
+widened-requires : tie.Need-widened-requires Inv-loop μ-loop
+widened-requires c κs =
+    let args = c .before .before .before .before .args in
+    let loop = c .before .loop in
+    let small = digit-small (args .radix) (args .power) (omega arith) (omega arith) in
+    λ l h. omega (
+      arith,
+      ap (λ xs. getD xs l 0) (loop .inv .1),
+      sums-high (digitOf (args .radix) (args .power)) (args .columns .now) (args .cells .now) (loop .j) small l h,
     )
 
 returns : tie.Need-returns Inv-loop μ-loop
 returns c =
-    let args = c .before .before .before .before .args in
+    let args = c .before .before .before .before .before .args in
     let cells = args .cells .now in
-    let all : c .before .loop .j ≡ length cells = omega arith in
-    c .before .loop .inv .1
+    let all : c .before .before .loop .j ≡ length cells = omega arith in
+    c .widened .ensures
+    ∙ ap (λ xs. tabulate 8 (λ l. getD xs l 0)) (c .before .before .loop .inv .1)
     ∙ ap (sumsOf (digitOf (args .radix) (args .power)) (args .columns .now) cells) all
     ∙ ap (λ vs. tabulate 8 (λ l. checkSum (digitOf (args .radix) (args .power)) l (take (length cells) (args .columns .now)) vs)) (take-length cells)
 
@@ -115,14 +201,25 @@ digit-sums-spec =
     (tie.spec
     Inv-loop
     μ-loop
+    div-by-power
+    add-by-power
+    cast-by-power
+    div-by-radix
+    add-by-radix
+    cast-by-radix
+    cast-base
     loop-holds
-    shared-slice-read-wide
-    wide-requires
-    div-digit
-    rem-digit
+    shared-slice-read-quotient
+    cast-quotient
+    quotient-requires
+    quotient-requires-2
+    mul-digit
+    sub-digit
+    cast-digit
     shared-slice-read-add-digit
     add-digit-requires
     add-j
     loop-less
     loop-again
+    widened-requires
     returns)

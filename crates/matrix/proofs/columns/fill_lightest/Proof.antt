@@ -1,134 +1,232 @@
--- `matrix::columns::fill_lightest` meets its contract: what is written and what the columns to come would write make the filled part.
+-- `matrix::columns::fill_lightest` meets its contract: what is written and what the weights to come would write make the filled part.
 -- Assumes nothing.
 use mathlib.Core.Path.{_≡_, refl, sym, _∙_, ap, ap₂}
-use mathlib.Core.Logic.{⊎-elim}
-use mathlib.Core.Bool.{Bool, true, false}
-use mathlib.Core.List.{List, [], _∷_, _++_, append-nil}
+use mathlib.Core.Bool.{Bool, cond}
+use mathlib.Core.List.{List, _++_, append-nil}
 use Prim.Native.Nat.{ℕ, suc, _+_, _-_, _≤_, _<_}
+use native.Mathlib.Nat.{add-sub-cancel-left}
 use native.Mathlib.Numerals.{add-one}
 use native.Mathlib.Omega.{arith}
-use lib.ListN.{length, getD, take, drop, set, length-set, take-append-drop, drop-of-length-le}
-use lib.Seq.{drop-cons, take-suc-set, drop-set-lt, append-snoc, take-all}
-use Rattle.parity.specs.Lists.{keep}
+use lib.ListN.{length, getD, take, drop, length-drop, drop-of-length-le}
+use borrow.Rule.Slice.PartAt.{part-to-end}
+use borrow.Rule.Slice.PartMut.{putMid, same-len-mid}
+use borrow.Author.Needs.{needs}
+use Rattle.parity.specs.Lists.{keep, filledFrom}
 use Rattle.parity.specs.Matrix.{columnOrder, eligible}
+use Rattle.parity.proofs.ListLaws.{getD-tabulate}
 use Rattle.parity.proofs.ColumnOrder.{orderClaim}
-use Rattle.parity.specs.Lists.{filledFrom}
+use Rattle.matrix.specs.Matrices.{ruleWeight}
+use Rattle.matrix.proofs.Blocks.{start, choice, count, start-end, choice-fits, count-fits, block-kept, block-length}
+use Rattle.matrix.proofs.Blocks.{goes, goes-next, goes-full, goes-ended}
 use Rattle.matrix.proofs.columns.fill_lightest.Statement.{statement}
 use Rattle.matrix.proofs.columns.fill_lightest.Tie as tie
 
-filled-none : (bs : List ℕ) → filledFrom [] bs ≡ bs
-filled-none [] = refl
-filled-none (b ∷ bs) = refl
-
--- the part as it will be: its first places, and the columns from this place on that pass the test
-abbrev goes : (ℕ → Bool) → List ℕ → ℕ → List ℕ → ℕ → List ℕ
-goes p cs place part found = take found part ++ filledFrom (keep p (drop place cs)) (drop found part)
-
-module _ (p : ℕ → Bool) (cs : List ℕ) (place : ℕ) (part : List ℕ) (found : ℕ) where
-  -- a column that is passed, and one that is stored, leave it as it will be
-  passed : place < length cs → p (getD cs place 0) ≡ false → goes p cs (place + 1) part found ≡ goes p cs place part found
-  passed here e = rw (add-one, drop-cons cs place 0, e)
-
-  stored :
-      place < length cs → p (getD cs place 0) ≡ true → found < length part
-      → goes p cs (place + 1) (set part found (getD cs place 0)) (found + 1) ≡ goes p cs place part found
-  stored here e room =
-      rw (
-        add-one place,
-        add-one found,
-        take-suc-set part found (getD cs place 0),
-        drop-set-lt (suc found) part found (getD cs place 0) (omega arith),
-        append-snoc,
-        drop-cons cs place 0,
-        drop-cons part found 0,
-        e,
-      )
-
-  -- no place or no column is left: it is as it will be
-  full : length part ≤ found → goes p cs place part found ≡ part
-  full h = rw (drop-of-length-le part h, append-nil, take-all)
-
-  ended : length cs ≤ place → goes p cs place part found ≡ part
-  ended h = rw (drop-of-length-le cs h, filled-none, take-append-drop)
-
 abbrev Inv-loop : tie.InvT-loop
-Inv-loop part₀ errors checks found₀ place₀ part found place =
-    (place ≤ 255) × (found ≤ length part) × (length part ≡ length part₀)
-    × (goes (eligible errors checks) columnOrder place part found ≡ filledFrom (keep (eligible errors checks) columnOrder) part₀)
+Inv-loop part₀ errors checks order below all found₀ place₀ w₀ part found place w =
+    (w ≤ 8) × (place ≡ start w) × (found ≤ length part) × (length part ≡ length part₀)
+    × (goes (keep (eligible errors checks) (drop place columnOrder)) part found ≡ filledFrom (keep (eligible errors checks) columnOrder) part₀)
 
 abbrev μ-loop : tie.MeasureT-loop
-μ-loop part₀ errors checks found₀ place₀ part found place = 255 - place
+μ-loop part₀ errors checks order below all found₀ place₀ w₀ part found place w = 8 - w
+
+-- at the copy of a weight's block
+module _ (c : tie.After-count-rules Inv-loop μ-loop) where
+  abbrev τ : ℕ
+  τ = c .before .before .before .before .before .before .before .args .errors
+
+  abbrev r : ℕ
+  r = c .before .before .before .before .before .before .before .args .checks
+
+  abbrev w : ℕ
+  w = c .before .before .loop .w
+
+  abbrev place : ℕ
+  place = c .before .before .loop .place
+
+  abbrev found : ℕ
+  found = c .before .before .loop .found
+
+  abbrev part : List ℕ
+  part = c .before .before .loop .part
+
+  abbrev given : List ℕ
+  given = c .before .before .before .before .before .before .before .args .part .now
+
+  rows : r ≤ 8
+  rows = omega arith
+
+  weights : w < 8
+  weights = omega arith
+
+  -- the block is as long as the weight has eligible columns, and within the order
+  counted : c .count-rules .result ≡ count τ r w
+  counted =
+      let row = c .before .before .before .before .choices in
+      c .count-rules .ensures
+      ∙ ap₂ (λ v n. cond (ruleWeight τ v) n 0) (add-one w) (ap (λ l. getD l w 0) (row .ensures) ∙ getD-tabulate 8 (choice r) w 0 weights)
+
+  within : place + c .count-rules .result ≤ 255
+  within = omega (arith, counted, count-fits τ r w rows weights)
+
+-- a list copied over a part from a place on
+laid :
+    (order part last : List ℕ) (place n found : ℕ)
+    → last ≡ filledFrom (take (place + n - place) (drop place order)) (take (length part - found) (drop found part))
+    → putMid found (length part - found) part last ≡ goes (take n (drop place order)) part found
+laid order part last place n found e =
+    let short : length (drop found part) ≤ length part - found = omega (arith, length-drop found part) in
+    ap (λ l. take found part ++ l)
+    (ap (λ l. last ++ l) (drop-of-length-le (drop found part) short) ∙ append-nil last ∙ e
+    ∙ ap₂ (λ k l. filledFrom (take k (drop place order)) l) (add-sub-cancel-left place n) (part-to-end part found))
+
+-- after that copy
+module _ (c : tie.After-copy Inv-loop μ-loop) where
+  abbrev copied : tie.After-count-rules Inv-loop μ-loop
+  copied = c .before .before .before .before
+
+  abbrev written : List ℕ
+  written = putMid (found copied) (length (part copied) - found copied) (part copied) (c .copy .last .1 .0)
+
+  sized : length written ≡ length (part copied)
+  sized = same-len-mid (found copied) (length (part copied) - found copied) (part copied) (c .copy .last .1 .0) (c .copy .kept .1 .0)
+
+  -- the columns from the next weight on
+  abbrev rest : List ℕ
+  rest = keep (eligible (τ copied) (r copied)) (drop (start (suc (w copied))) columnOrder)
+
+  -- with the block in it the part will be the same
+  stepped :
+      goes rest written (found copied + copied .count-rules .result)
+      ≡ filledFrom (keep (eligible (τ copied) (r copied)) columnOrder) (given copied)
+  stepped =
+      let p : ℕ → Bool = eligible (τ copied) (r copied) in
+      let l : List ℕ = part copied in
+      let f = found copied in
+      let inv = c .before .before .before .before .before .before .loop .inv in
+      let order = c .before .before .before .before .before .before .before .before .before .column-order in
+      let block : List ℕ = take (count (τ copied) (r copied) (w copied)) (drop (start (w copied)) columnOrder) in
+      let same : written ≡ goes block l f
+      = laid (order .result) l (c .copy .last .1 .0) (place copied) (copied .count-rules .result) f (c .copy .ensures)
+      ∙ (λ i. goes (take (counted copied i) (drop (inv .1 i) (order .ensures i))) l f) in
+      let long : copied .count-rules .result ≡ length block
+      = counted copied ∙ sym (block-length (τ copied) (r copied) (w copied) (rows copied) (weights copied)) in
+      ap₂ (λ l n. goes rest l (f + n)) same long
+      ∙ goes-next rest l f block (inv .2)
+      ∙ ap (λ cs. goes cs l f) (sym (block-kept (τ copied) (r copied) (w copied) (rows copied) (weights copied)))
+      ∙ ap (λ n. goes (keep p (drop n columnOrder)) l f) (sym (inv .1))
+      ∙ inv .4
+
+column-order-requires : tie.Need-column-order-requires Inv-loop μ-loop
+column-order-requires c κs = search needs
+
+choices-requires : tie.Need-choices-requires Inv-loop μ-loop
+choices-requires c κs = search needs
+
+choices-requires-2 : tie.Need-choices-requires-2 Inv-loop μ-loop
+choices-requires-2 c κs = search needs
 
 loop-holds : tie.Need-loop-holds Inv-loop μ-loop
-loop-holds c = (omega arith, omega arith, refl, refl)
+loop-holds c = (omega arith, refl, omega arith, refl, refl)
+
+add-count-rules : tie.Need-add-count-rules Inv-loop μ-loop
+add-count-rules c = omega arith
+
+array-read-count-rules : tie.Need-array-read-count-rules Inv-loop μ-loop
+array-read-count-rules c = omega arith
+
+count-rules-requires : tie.Need-count-rules-requires Inv-loop μ-loop
+count-rules-requires c κs = search needs
+
+add-to : tie.Need-add-to Inv-loop μ-loop
+add-to c = omega (arith, within c)
+
+sub-copy : tie.Need-sub-copy Inv-loop μ-loop
+sub-copy c = omega arith
+
+part-copy-start : tie.Need-part-copy-start Inv-loop μ-loop
+part-copy-start c = search needs
+
+part-copy-end : tie.Need-part-copy-end Inv-loop μ-loop
+part-copy-end c =
+    omega (arith, within (c .before), ap length (c .before .before .before .before .before .before .column-order .ensures), orderClaim .sized)
+
+sub-copy-2 : tie.Need-sub-copy-2 Inv-loop μ-loop
+sub-copy-2 c = omega arith
+
+part-copy-start-2 : tie.Need-part-copy-start-2 Inv-loop μ-loop
+part-copy-start-2 c = search needs
+
+part-copy-end-2 : tie.Need-part-copy-end-2 Inv-loop μ-loop
+part-copy-end-2 c = search needs
+
+copy-requires : tie.Need-copy-requires Inv-loop μ-loop
+copy-requires c κs = search needs
+
+sub-if1 : tie.Need-sub-if1 Inv-loop μ-loop
+sub-if1 c = omega (arith, sized (c .before .before))
 
 same-length : tie.Need-same-length Inv-loop μ-loop
-same-length c = omega arith
+same-length c = omega (arith, sized (c .before .before .before))
 
 returns : tie.Need-returns Inv-loop μ-loop
 returns c =
-    let args = c .before .before .before .before .args in
-    let at = c .before .before .loop in
-    sym (full (eligible (args .errors) (args .checks)) columnOrder (at .place) (at .part) (at .found) (omega arith)) ∙ at .inv .3
-
-in-order-requires : tie.Need-in-order-requires Inv-loop μ-loop
-in-order-requires c κs = omega arith
-
-can-be-rule-requires : tie.Need-can-be-rule-requires Inv-loop μ-loop
-can-be-rule-requires c κs = omega arith
-
-slice-write-part : tie.Need-slice-write-part Inv-loop μ-loop
-slice-write-part c = omega arith
+    let after = c .before .before .before in
+    sym (goes-full (rest after) (written after) (found (copied after) + copied after .count-rules .result) (omega arith)) ∙ stepped after
 
 add-found : tie.Need-add-found Inv-loop μ-loop
-add-found c = omega arith
+add-found c = omega (arith, sized (c .before .before .before))
+
+array-read-wide : tie.Need-array-read-wide Inv-loop μ-loop
+array-read-wide c = omega arith
+
+wide-requires : tie.Need-wide-requires Inv-loop μ-loop
+wide-requires c κs = search needs
+
+-- the place of the next weight
+next :
+    (c : tie.After-wide Inv-loop μ-loop) → let before = copied (c .before .before .before .before) in place before + c .wide .result ≡ start (suc (w before))
+next c =
+    let at = c .before .before .before .before .before .before .before .before .before .before .loop in
+    let row = c .before .before .before .before .before .before .before .before .before .before .before .choices2 in
+    ap₂ _+_ (at .inv .1)
+    (c .wide .ensures ∙ ap (λ l. getD l (at .w) 0) (row .ensures) ∙ getD-tabulate 8 (choice 8) (at .w) 0 (omega arith))
 
 add-place : tie.Need-add-place Inv-loop μ-loop
-add-place c = omega arith
+add-place c =
+    let before = copied (c .before .before .before .before) in
+    omega (arith, next c, choice-fits 8 (w before) (omega arith) (weights before))
+
+add-w : tie.Need-add-w Inv-loop μ-loop
+add-w c = omega arith
 
 loop-less : tie.Need-loop-less Inv-loop μ-loop
 loop-less c = omega arith
 
 loop-again : tie.Need-loop-again Inv-loop μ-loop
 loop-again c =
-    let args = c .before .before .before .before .before .before .before .args in
-    let p : ℕ → Bool = eligible (args .errors) (args .checks) in
-    let at = c .before .before .before .before .before .loop in
-    let read = c .before .before .in-order in
-    let here : at .place < length columnOrder = omega (arith, orderClaim .sized) in
-    let column : ℕ = getD columnOrder (at .place) 0 in
-    let tested : p column ≡ c .before .can-be-rule .result = ap p (sym (read .ensures)) ∙ sym (c .before .can-be-rule .ensures) in
-    ⊎-elim
-    (λ w.
-    let store : c .if2 .part ≡ set (at .part) (at .found) column = w .1 ∙ ap (set (at .part) (at .found)) (read .ensures) in
-    let sized : length (c .if2 .part) ≡ length (at .part) = ap length store ∙ length-set (at .part) (at .found) column in (
+    let at = c .before .before .before .before .before .before .before .before .before .before .loop in
+    let after = c .before .before .before .before in
+    let p : ℕ → Bool = eligible (τ (copied after)) (r (copied after)) in (
       omega arith,
-      omega arith,
-      omega arith,
-      ap₂ (goes p columnOrder (at .place + 1)) store (w .2)
-          ∙ stored p columnOrder (at .place) (at .part) (at .found) here (tested ∙ w .0 .taken) (omega arith)
-          ∙ at .inv .3,
-    ))
-    (λ w.
-    let sized : length (c .if2 .part) ≡ length (at .part) = ap length (w .1) in (
-      omega arith,
-      omega arith,
-      omega arith,
-      ap₂ (goes p columnOrder (at .place + 1)) (w .1) (w .2)
-          ∙ passed p columnOrder (at .place) (at .part) (at .found) here (tested ∙ w .0 .left)
-          ∙ at .inv .3,
-    ))
-    (c .if2 .came)
+      next c ∙ ap start (sym (add-one (at .w))),
+      omega (arith, sized after),
+      sized after ∙ at .inv .3,
+      ap (λ n. goes (keep p (drop n columnOrder)) (written after) (at .found + copied after .count-rules .result)) (next c) ∙ stepped after,
+    )
 
 same-length-2 : tie.Need-same-length-2 Inv-loop μ-loop
 same-length-2 c = omega arith
 
 returns-2 : tie.Need-returns-2 Inv-loop μ-loop
 returns-2 c =
-    let args = c .before .before .before .args in
     let at = c .before .loop in
-    sym (ended (eligible (args .errors) (args .checks)) columnOrder (at .place) (at .part) (at .found) (omega (arith, orderClaim .sized)))
-    ∙ at .inv .3
+    let args = c .before .before .before .before .before .before .args in
+    let last : at .w ≡ 8 = omega arith in
+    let end : length columnOrder ≤ at .place = omega (arith, orderClaim .sized, at .inv .1 ∙ ap start last ∙ start-end) in
+    sym
+    (ap (λ cs. goes (keep (eligible (args .errors) (args .checks)) cs) (at .part) (at .found)) (drop-of-length-le columnOrder end)
+    ∙ goes-ended (at .part) (at .found))
+    ∙ at .inv .4
 
 pub fill-lightest-spec : {M : Type 1} → statement M
 fill-lightest-spec =
@@ -136,14 +234,29 @@ fill-lightest-spec =
     (tie.spec
     Inv-loop
     μ-loop
+    column-order-requires
+    choices-requires
+    choices-requires-2
     loop-holds
+    add-count-rules
+    array-read-count-rules
+    count-rules-requires
+    add-to
+    sub-copy
+    part-copy-start
+    part-copy-end
+    sub-copy-2
+    part-copy-start-2
+    part-copy-end-2
+    copy-requires
+    sub-if1
     same-length
     returns
-    in-order-requires
-    can-be-rule-requires
-    slice-write-part
     add-found
+    array-read-wide
+    wide-requires
     add-place
+    add-w
     loop-less
     loop-again
     same-length-2

@@ -1,21 +1,33 @@
--- `scrub::place::index_of` meets its contract: no product is above 255 × 2,040, and the quotient of the span is from 1 up to the span.
--- Assumes nothing.
-use Prim.Native.Nat.{ℕ, _-_, _*_, _/_, _≤_}
-use native.Mathlib.Nat.{mul-le-mul, div-le-self}
+-- `passes::factors::index_of` meets its contract: no product is above 255 × 2,040, and a factor that ρ does not divide has the quotient of the
+-- number before it. Assumes nothing.
+use mathlib.Core.Path.{_≡_}
+use mathlib.Core.Logic.{_≢_}
+use Prim.Native.Nat.{ℕ, _-_, _*_, _/_, _%_, _≤_, _<_}
+use native.Mathlib.Nat.{mul-le-mul, mul-le-mul-left, mod-lt, div-add-mod', div-eq-of-lt-le}
 use native.Mathlib.Omega.{arith}
 use borrow.Author.Needs.{needs}
 use Rattle.passes.proofs.factors.index_of.Statement.{statement}
 use Rattle.passes.proofs.factors.index_of.Tie as tie
 
+module _ (a ρ : ℕ) (pos : 0 < ρ) (apart : a % ρ ≢ 0) where
+  quotient-below : a / ρ < a
+  quotient-below = let h : a / ρ * 1 ≤ a / ρ * ρ = mul-le-mul-left (a / ρ) pos in omega (arith, div-add-mod' a ρ)
+
+  quotient-before : (a - 1) / ρ ≡ a / ρ
+  quotient-before = div-eq-of-lt-le {k = a / ρ} ρ (omega (arith, div-add-mod' a ρ)) (omega (arith, div-add-mod' a ρ, mod-lt a pos))
+
 module _ (c : tie.Start) where
   abbrev next : ℕ
-  next = c .args .span / c .args .radix
+  next = c .args .next
 
-  next-high : next ≤ c .args .span
-  next-high = div-le-self (c .args .span) (c .args .radix)
+  abbrev span : ℕ
+  span = next * c .args .radix
 
-  last-high : (c .args .factor - 1) / c .args .radix ≤ c .args .factor - 1
-  last-high = div-le-self (c .args .factor - 1) (c .args .radix)
+  next-high : next ≤ span
+  next-high = let h : next * 1 ≤ span = mul-le-mul-left next (c .pre .1) in omega arith
+
+  factor-below : c .args .factor / c .args .radix < c .args .factor
+  factor-below = quotient-below (c .args .factor) (c .args .radix) (c .pre .1) (c .pre .2 .1)
 
   before-high : (c .args .levels - 1) * c .args .survey .before ≤ 255 * 2040
   before-high = mul-le-mul {n₂ = 255} {m₂ = 2040} (omega arith) (omega arith)
@@ -23,14 +35,8 @@ module _ (c : tie.Start) where
   size-high : c .args .survey .size * (next - 1) ≤ 255 * 255
   size-high = mul-le-mul {n₂ = 255} {m₂ = 255} (omega arith) (omega (arith, next-high))
 
-  rank-high : c .args .survey .rank * (c .args .span - next) ≤ 255 * 256
+  rank-high : c .args .survey .rank * (span - next) ≤ 255 * 256
   rank-high = mul-le-mul {n₂ = 255} {m₂ = 256} (omega arith) (omega arith)
-
-div-next : tie.Need-div-next
-div-next c = search needs
-
-sub-last : tie.Need-sub-last
-sub-last c = search needs
 
 sub-result : tie.Need-sub-result
 sub-result c = search needs
@@ -39,7 +45,7 @@ mul-result : tie.Need-mul-result
 mul-result c = omega (arith, before-high (c .before))
 
 sub-result-2 : tie.Need-sub-result-2
-sub-result-2 c = c .before .pre .3 .1
+sub-result-2 c = search needs
 
 mul-result-2 : tie.Need-mul-result-2
 mul-result-2 c = omega (arith, size-high (c .before .before))
@@ -47,42 +53,50 @@ mul-result-2 c = omega (arith, size-high (c .before .before))
 add-result : tie.Need-add-result
 add-result c = let s = c .before .before in omega (arith, before-high s, size-high s)
 
+mul-result-3 : tie.Need-mul-result-3
+mul-result-3 c = search needs
+
 sub-result-3 : tie.Need-sub-result-3
 sub-result-3 c = next-high (c .before .before)
 
-mul-result-3 : tie.Need-mul-result-3
-mul-result-3 c = omega (arith, rank-high (c .before .before .before))
+mul-result-4 : tie.Need-mul-result-4
+mul-result-4 c = omega (arith, rank-high (c .before .before .before))
 
 add-result-2 : tie.Need-add-result-2
 add-result-2 c = let s = c .before .before .before in omega (arith, before-high s, size-high s, rank-high s)
 
+sub-result-4 : tie.Need-sub-result-4
+sub-result-4 c = omega (arith, factor-below (c .before .before .before))
+
 div-result : tie.Need-div-result
 div-result c = search needs
 
-sub-result-4 : tie.Need-sub-result-4
-sub-result-4 c = last-high (c .before .before .before)
+sub-result-5 : tie.Need-sub-result-5
+sub-result-5 c = omega (arith, factor-below (c .before .before .before))
 
 add-result-3 : tie.Need-add-result-3
 add-result-3 c = let s = c .before .before .before in omega (arith, before-high s, size-high s, rank-high s)
 
 returns : tie.Need-returns
-returns c = search needs
+returns c =
+    let s = c .before .before .before in
+    rw (quotient-before (s .args .factor) (s .args .radix) (s .pre .1) (s .pre .2 .1))
 
 pub index-of-spec : {M : Type 1} → statement M
 index-of-spec =
     tie.close
     (tie.spec
-    div-next
-    sub-last
     sub-result
     mul-result
     sub-result-2
     mul-result-2
     add-result
-    sub-result-3
     mul-result-3
+    sub-result-3
+    mul-result-4
     add-result-2
-    div-result
     sub-result-4
+    div-result
+    sub-result-5
     add-result-3
     returns)

@@ -1,4 +1,4 @@
--- `scrub::place::is_factor` meets its contract: at each return the tests on the way say which part of the test fails. Assumes nothing.
+-- `passes::factors::is_factor` meets its contract: at each return the tests on the way say which part of the test fails. Assumes nothing.
 use native.Mathlib.Omega.{arith}
 use borrow.Author.Needs.{needs}
 use borrow.Author.Tests.{le-leb, lt-leb, lt-ltb, le-ltb}

@@ -4,7 +4,8 @@ use mathlib.Core.Path.{_≡_, refl, sym, _∙_, ap}
 use mathlib.Core.Logic.{_≢_}
 use mathlib.Core.Bool.{Bool, true, false, cond, not, _&&_, and-eq-true-iff, false≢true}
 use mathlib.Core.List.{List}
-use Prim.Native.Nat.{ℕ, suc, _+_, _-_, _*_, _/_, _%_, _^_, _≤_, _<_}
+use Prim.Native.Nat.{ℕ, suc, _+_, _-_, _*_, _/_, _%_, _≤_, _<_}
+use native.Mathlib.Nat.{one-mul}
 use native.Mathlib.Omega.{arith}
 use lib.Dec.{eqb, leb, ltb}
 use lib.ListN.{length, getD, take, length-take}
@@ -31,21 +32,20 @@ use Rattle.scrub.specs.declared.place.Located.the-variants.{At, Elsewher
 use Rattle.passes.proofs.CheckRows.{places-high, rows-high, bit-tested}
 use Rattle.scrub.proofs.CycleRecord.{next-record}
 use Rattle.scrub.proofs.Lookups.{lookups-high}
-use Rattle.scrub.proofs.Spans.{span-first, span-next, span-high, span-less}
+use Rattle.scrub.proofs.Spans.{span-first, span-high, span-times, span-power, span-less}
 use Rattle.scrub.proofs.Places.{AtPlace, next-phase, next-place, place-next}
 use Rattle.scrub.proofs.place.locate.Statement.{statement}
 use Rattle.scrub.proofs.place.locate.Tie as tie
 
 -- the index of a place as the code computes it
 index-as :
-    (s : Shape) (ℓ d j a r : ℕ) {q m : ℕ} {v : Survey}
-    → r ≡ (q - 1) * v .before + v .size * (m / s .radix - 1) + v .rank * (m - m / s .radix) + (a - 1 - (a - 1) / s .radix)
-    → q ≡ levels s → m ≡ span s d → v ≡ surveyOf (matrix s) ℓ j → r ≡ placeIndex s ℓ d j a
+    (s : Shape) (ℓ d j a r : ℕ) {q n : ℕ} {v : Survey}
+    → r ≡ (q - 1) * v .before + v .size * (n - 1) + v .rank * (n * s .radix - n) + (a - 1 - (a - 1) / s .radix)
+    → q ≡ levels s → n ≡ span s (suc d) → n * s .radix ≡ span s d → v ≡ surveyOf (matrix s) ℓ j → r ≡ placeIndex s ℓ d j a
 unfolding placeIndex rowSize rank support
-index-as s ℓ d j a r {q} {m} {v} result eq em ev =
-    let next : m / s .radix ≡ span s (suc d) = ap (λ x. x / s .radix) em ∙ span-next s d in
+index-as s ℓ d j a r result eq en em ev =
     result
-    ∙ (λ i. (eq i - 1) * ev i .before + ev i .size * (next i - 1) + ev i .rank * (em i - next i) + (a - 1 - (a - 1) / s .radix))
+    ∙ (λ i. (eq i - 1) * ev i .before + ev i .size * (en i - 1) + ev i .rank * (em i - en i) + (a - 1 - (a - 1) / s .radix))
 
 -- no number of a survey is above 255 for each check row
 survey-high :
@@ -127,7 +127,7 @@ abbrev ranged : tie.Else6 → tie.Else5
 ranged c = c .before .before .before .before
 
 abbrev held : tie.Else7 → tie.Else6
-held c = c .before .before .before
+held c = c .before .before .before .before
 
 row-high : (c : tie.Else5) → cycle (counted c) .row < 8
 row-high c = let s = counted c in omega (arith, c .before .before .before .if3 .left, all-checks s, checks-high s)
@@ -142,9 +142,19 @@ bit-read c =
     bit-tested (cycle s .row) _ _ _ (c .power-of-two .ensures)
     (c .before .wide .ensures ∙ ap (λ cs. getD cs (cycle s .column) 0) (s .pre .2))
 
-own-span : (c : tie.After-span-of) → let s = counted (ranged (c .before)) in c .span-of .result ≡ span (shape s) (cycle s .digit)
-unfolding span
-own-span c = let s = counted (ranged (c .before)) in c .span-of .ensures ∙ ap (λ q. q / shape s .radix ^ cycle s .digit) (all-levels s)
+-- the spans of the next digit and of the own one, as the code makes them
+abbrev scaled : tie.After-scale → tie.Else5
+scaled c = ranged (c .before .before)
+
+own-next : (c : tie.After-scale) → let s = counted (scaled c) in c .scale .result ≡ span (shape s) (suc (cycle s .digit))
+own-next c =
+    let s = counted (scaled c) in
+    c .scale .ensures ∙ one-mul _ ∙ span-power (shape s) (taken s) (cycle s .digit) (scaled c .before .if4 .left)
+
+own-span : (c : tie.After-scale) → let s = counted (scaled c) in c .scale .result * shape s .radix ≡ span (shape s) (cycle s .digit)
+own-span c =
+    let s = counted (scaled c) in
+    ap (λ n. n * shape s .radix) (own-next c) ∙ sym (span-times (shape s) (taken s) (cycle s .digit) (scaled c .before .if4 .left))
 
 placed : (c : tie.Else7) → let s = counted (ranged (held c)) in Place (shape s) (cycle s .row) (cycle s .digit) (cycle s .column) (cycle s .factor)
 placed c =
@@ -174,7 +184,7 @@ index :
 index c =
     let s = counted (ranged (held (c .before .before))) in
     index-as (shape s) (cycle s .row) (cycle s .digit) (cycle s .column) (cycle s .factor) (c .index-of .result) (c .index-of .ensures) (all-levels s)
-    (own-span (c .before .before .before .before)) (survey (c .before))
+    (own-next (c .before .before .before .before)) (own-span (c .before .before .before .before)) (survey (c .before))
 
 is-open-requires : tie.Need-is-open-requires
 is-open-requires c κs = search needs
@@ -219,15 +229,28 @@ div-if6 c = omega (arith, c .power-of-two .ensures, pow-pos (cycle (counted (c .
 returns-6 : tie.Need-returns-6
 returns-6 c = misplaced (counted (c .before .before .before .before)) (λ at. omega (arith, at .0 .held, bit-read (c .before)))
 
-span-of-requires : tie.Need-span-of-requires
-span-of-requires c κs = radix-some (counted (ranged c))
+sub-scale : tie.Need-sub-scale
+sub-scale c = search needs
+
+sub-scale-2 : tie.Need-sub-scale-2
+sub-scale-2 c = search needs
+
+scale-requires : tie.Need-scale-requires
+scale-requires c κs =
+    let x = ranged (c .before) in
+    let s = counted x in
+    let d = cycle s .digit in
+    (radix-some s, omega (arith, span-power (shape s) (taken s) d (x .before .if4 .left), span-high (shape s) (taken s) (suc d)))
+
+mul-span : tie.Need-mul-span
+mul-span c = let s = counted (scaled c) in omega (arith, own-span c, span-high (shape s) (taken s) (cycle s .digit))
 
 is-factor-requires : tie.Need-is-factor-requires
-is-factor-requires c κs = radix-some (counted (ranged (c .before)))
+is-factor-requires c κs = radix-some (counted (scaled c))
 
 returns-7 : tie.Need-returns-7
 returns-7 c =
-    let s = counted (ranged (c .before .before .before)) in
+    let s = counted (scaled (c .before .before)) in
     misplaced s
     (λ at.
     factor-failed (cycle s .factor) _ (shape s .radix) (c .before .is-factor .ensures) (not-true _ (c .if7 .taken)) (at .0 .low)
@@ -236,7 +259,7 @@ returns-7 c =
 survey-row-requires : tie.Need-survey-row-requires
 survey-row-requires c κs =
     let s = counted (ranged (held c)) in
-    omega (arith, all-columns s, columns-high (shape s) (taken s), row-high (ranged (held c)))
+    omega (arith, all-columns s, columns-high (shape s) (taken s), row-high (ranged (held c)), ranged (held c) .if5 .left)
 
 index-of-requires : tie.Need-index-of-requires
 index-of-requires c κs =
@@ -244,16 +267,13 @@ index-of-requires c κs =
     let s = counted (ranged (held x)) in
     let d = cycle s .digit in
     let p = placed x in
-    let e = own-span (x .before .before) in
-    let less = span-less (shape s) (taken s) d (p .digit) in
-    let next : x .before .before .span-of .result / shape s .radix ≡ span (shape s) (suc d) = ap (λ m. m / shape s .radix) e ∙ span-next (shape s) d in
-    let sized = matrixClaim (shape s) (taken s) .sized in (
+    let high = span-high (shape s) (taken s) d in (
       omega (arith, all-levels s, levels-some s, limits (shape s) (taken s) .levelsHigh),
       radix-some s,
-      (p .low, omega (arith, p .high)),
-      (omega (arith, span-high (shape s) (taken s) d), omega arith),
-      survey-high (matrix (shape s)) (cycle s .row) (cycle s .column) (survey c) (omega (arith, columns-high (shape s) (taken s)))
-          (row-high (ranged (held x))),
+      (omega (arith, p .high), p .undivided),
+      (omega (arith, own-next (x .before .before), span-less (shape s) (taken s) d (p .digit)), omega (arith, own-span (x .before .before))),
+      survey-high (matrix (shape s)) (cycle s .row) (cycle s .column) (survey c)
+          (omega (arith, matrixClaim (shape s) (taken s) .sized, columns-high (shape s) (taken s))) (row-high (ranged (held x))),
     )
 
 returns-8 : tie.Need-returns-8
@@ -289,7 +309,10 @@ locate-spec =
     power-of-two-requires
     div-if6
     returns-6
-    span-of-requires
+    sub-scale
+    sub-scale-2
+    scale-requires
+    mul-span
     is-factor-requires
     returns-7
     survey-row-requires

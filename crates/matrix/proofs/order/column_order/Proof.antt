@@ -1,15 +1,13 @@
--- `matrix::order::in_order` meets its contract: one computed test holds the table to the column order. Assumes nothing.
-use mathlib.Core.Path.{_≡_, refl, ap}
+-- `matrix::order::column_order` meets its contract: one computed test holds the table to the column order. Assumes nothing.
+use mathlib.Core.Path.{_≡_, refl}
 use mathlib.Core.List.{List, [], _∷_}
 use Prim.Native.Nat.{ℕ}
-use lib.ListN.{getD}
-use borrow.Author.Needs.{needs}
 use Rattle.parity.specs.Lists.{differences}
 use Rattle.parity.specs.Shape.{digit}
 use Rattle.parity.specs.Matrix.{weight, ofWeight, columnOrder}
 use Rattle.parity.proofs.ListLaws.{differences-zero}
-use Rattle.matrix.proofs.order.in_order.Statement.{statement}
-use Rattle.matrix.proofs.order.in_order.Tie as tie
+use Rattle.matrix.proofs.order.column_order.Statement.{statement}
+use Rattle.matrix.proofs.order.column_order.Tie as tie
 
 -- the source's table
 abbrev table : List ℕ
@@ -37,11 +35,8 @@ right : differences table columnOrder ≡ 0
 unfolding columnOrder ofWeight weight digit
 right = refl
 
-array-read-result : tie.Need-array-read-result
-array-read-result c = search needs
-
 returns : tie.Need-returns
-returns c = ap (λ l. getD l (c .args .place) 0) (differences-zero table columnOrder right)
+returns c = differences-zero table columnOrder right
 
-pub in-order-spec : {M : Type 1} → statement M
-in-order-spec = tie.close (tie.spec array-read-result returns)
+pub column-order-spec : {M : Type 1} → statement M
+column-order-spec = tie.close (tie.spec returns)
