@@ -1,3 +1,2 @@
--- The laws that the proofs of the functions, here and in the crate above, cite.
-pub mod CheckRows
+-- The law that the proofs of the functions cite.
 pub mod Pass

@@ -22,7 +22,7 @@ use Rattle.schedule.proofs.Ranks.{factorRank, Factor, stands-support, factor-la
 use Rattle.scrub.specs.Record.{openRecord, completeAt, cycleAt, isNext}
 use Rattle.scrub.specs.declared.cycle.Cycle.{Cycle}
 use Rattle.scrub.proofs.CycleRecord.{record-complete}
-use Rattle.passes.proofs.CheckRows.{before-next, heldFrom, Held, held-found}
+use Rattle.position.proofs.CheckRows.{before-next, heldFrom, Held, held-found}
 use Rattle.scrub.proofs.Spans.{span-times, span-first, span-end, span-less}
 use Rattle.scrub.proofs.NextFactor.{nextFactor, next-undivided, next-rank, next-last}
 use Rattle.scrub.proofs.Places.{place-record, next-place}

@@ -23,13 +23,13 @@ use Rattle.parity.proofs.MatrixFacts.{matrixClaim}
 use Rattle.matrix.proofs.Sizes.{columns-high}
 use Rattle.schedule.specs.Index.{Place, rowSize, rank, span, placeIndex}
 use Rattle.scrub.specs.Record.{isOpen, isNext}
-use Rattle.passes.specs.Survey.{surveyOf}
+use Rattle.position.specs.Survey.{surveyOf}
 use Rattle.scrub.specs.Places.{standingOf, locatedAt}
 use Rattle.scrub.specs.declared.cycle.Cycle.{Cycle}
-use Rattle.passes.specs.declared.columns.Survey.{Survey}
+use Rattle.position.specs.declared.columns.Survey.{Survey}
 use Rattle.scrub.specs.declared.place.Standing.{Standing}
 use Rattle.scrub.specs.declared.place.Located.the-variants.{At, Elsewhere}
-use Rattle.passes.proofs.CheckRows.{places-high, rows-high, bit-tested}
+use Rattle.position.proofs.CheckRows.{places-high, rows-high, bit-tested}
 use Rattle.scrub.proofs.CycleRecord.{next-record}
 use Rattle.scrub.proofs.Lookups.{lookups-high}
 use Rattle.scrub.proofs.Spans.{span-first, span-high, span-times, span-power, span-less}

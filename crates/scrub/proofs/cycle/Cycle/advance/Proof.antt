@@ -18,7 +18,7 @@ use Rattle.schedule.specs.Index.{Place, span, rowSize, rank}
 use Rattle.scrub.specs.Record.{openRecord, completeAt, cycleAt, isNext}
 use Rattle.scrub.specs.declared.cycle.Cycle.{Cycle}
 use Rattle.scrub.specs.declared.cycle.Phase.the-variants.{Open}
-use Rattle.passes.proofs.CheckRows.{places-high, heldFrom}
+use Rattle.position.proofs.CheckRows.{places-high, heldFrom}
 use Rattle.scrub.proofs.CycleRecord.{next-record}
 use Rattle.scrub.proofs.NextFactor.{nextFactor}
 use Rattle.scrub.proofs.Spans.{span-high}

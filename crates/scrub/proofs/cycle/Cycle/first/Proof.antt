@@ -10,7 +10,7 @@ use Rattle.parity.specs.declared.Shape.{Shape}
 use Rattle.parity.proofs.Taken.{limits}
 use Rattle.scrub.specs.Record.{openRecord, cycleAt}
 use Rattle.scrub.specs.declared.cycle.Cycle.{Cycle}
-use Rattle.passes.proofs.CheckRows.{heldFrom}
+use Rattle.position.proofs.CheckRows.{heldFrom}
 use Rattle.scrub.proofs.Following.{record-first}
 use Rattle.scrub.proofs.cycle.Cycle.first.Statement.{statement}
 use Rattle.scrub.proofs.cycle.Cycle.first.Tie as tie

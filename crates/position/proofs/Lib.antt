@@ -1,0 +1,2 @@
+-- The laws that the proofs of the functions, here and in the crate above, cite.
+pub mod CheckRows
