@@ -9,13 +9,12 @@ use borrow.Author.Tests.{eq-eqb}
 use Rattle.parity.specs.Matrix.{lookups}
 use Rattle.parity.specs.Questions.{Taken}
 use Rattle.parity.specs.declared.Shape.{Shape}
-use Rattle.array.specs.Arrays.{cellCount}
 use Rattle.scrub.specs.Record.{cycleAt, isNext}
 use Rattle.scrub.specs.Calls.{Sized, State, fresh, started, stepped}
 use Rattle.scrub.specs.Run.{start, step, result, runFrom, run}
 use Rattle.detection.specs.Claims.{stepsWith, Buffers, CourseClaim, QuestionNineClaim}
 use Rattle.scrub.proofs.CycleRecord.{record-count, record-open, record-complete, next-open, next-record}
-use Rattle.scrub.proofs.Steps.{Lines, started-lines, started-sized, start-state, stepped-lines, stepped-cycle, stepped-sized, step-state}
+use Rattle.scrub.proofs.Steps.{fresh-sized, Lines, started-lines, started-sized, start-state, stepped-lines, stepped-cycle, stepped-sized, step-state}
 
 -- a start and c taken steps have been made on these cells
 pub record Underway (s : Shape) (cells : List ℕ) (c : ℕ) (st : State) : Type 0 where
@@ -66,11 +65,6 @@ courseClaim s t st z buffers sized h = (
   λ lt. ap (λ r. r .phase) (record-open s t (length buffers) lt),
   λ e. ap (λ r. r .phase) (record-complete s t (length buffers) (le-of-eq (sym e))),
 )
-
-pub fresh-sized : (s : Shape) → Sized s (fresh s)
-unfolding fresh
-fresh-sized s =
-    record { cells = length-replicate (cellCount s) 0; counters = length-replicate (s .rows) 0; flags = length-replicate (s .rows) 0 }
 
 -- c buffers of zeros
 zero-buffers : (s : Shape) (c : ℕ) → Buffers s (replicate c (replicate (s .rows) 0))

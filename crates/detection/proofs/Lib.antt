@@ -9,4 +9,3 @@ pub mod Keeping
 pub mod Detection
 pub mod Shutdown
 pub mod Examples
-pub mod WholeCycle

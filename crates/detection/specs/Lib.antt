@@ -1,5 +1,4 @@
--- What a reader has to believe of detection: document 01's log of a list of calls, the claim of demand 3, and a whole cycle as one call.
+-- What a reader has to believe of detection: document 01's log of a list of calls, and the claim of demand 3.
 pub mod Log
 pub mod Claims
 pub mod Examples
-pub mod Whole

@@ -1,3 +1,2 @@
-// Detection: one whole cycle as a call, and, in specs/ and proofs/, what lists of calls do: document 01's log and
-// the claim of demand 3.
-pub mod whole;
+// Detection: what lists of calls do. This crate holds no program code: document 01's log and the claim of demand 3 (specs/), and their proofs
+// (proofs/), over the definitions that the functions of the crates below are proved to meet.

@@ -1,13 +1,13 @@
 // The calls that have the record. A refused call leaves the words and every buffer as they were.
-use detection::whole::run_cycle;
 use parity::Shape;
+use whole::run_cycle;
 use words::cycle_of;
 use words::store;
 ghost use mathlib.Core.Path.{_≡_};
 ghost use mathlib.Core.List.{[]};
 ghost use Rattle.scrub.specs.Calls.{clearCall, programCall, startCall, stepCall};
 ghost use Rattle.scrub.specs.Methods.{stateOf};
-ghost use Rattle.detection.specs.Whole.{cycleCall};
+ghost use Rattle.whole.specs.Whole.{cycleCall};
 ghost use Rattle.words.specs.Words.{cycleOf, storedWords};
 
 // Clear: cells, counters and flags all 0, record idle: the fresh array.

@@ -17,11 +17,11 @@ use Rattle.scrub.specs.Record.{idle}
 use Rattle.scrub.specs.Calls.{Sized, State, clearRefusal, fresh, clearCall, programCall, driftCall, stepArguments, stepRefusal, stepCall}
 use Rattle.scrub.specs.Run.{Call, clear, start, program, drift, step, result, runFrom, run}
 use Rattle.scrub.specs.Methods.{stateOf}
-use Rattle.detection.specs.Whole.{cycleRefusal, cycleCall}
+use Rattle.whole.specs.Whole.{cycleRefusal, cycleCall}
 use Rattle.scrub.proofs.Asked.{clear-asked}
 use Rattle.scrub.proofs.Given.{makes}
 use Rattle.scrub.proofs.Lent.{lengthQuestions}
-use Rattle.detection.proofs.Course.{fresh-sized}
+use Rattle.scrub.proofs.Steps.{fresh-sized}
 use Rattle.parse.specs.Parse.{jobShape, rowLevels, driftCount, driftRow, driftColumn, driftLevel}
 use Rattle.job.specs.Job.{jobCalls, jobState}
 use Rattle.scrub.proofs.Runs.{run-append}

@@ -1,10 +1,10 @@
 // The calls of a job: clear, program every row, the drifts, one cycle.
 use array::change::drift;
-use detection::whole::run_cycle;
 use limits::byte::wide;
 use parity::Shape;
 use parse::questions::two_at;
 use scrub::cycle::Cycle;
+use whole::run_cycle;
 ghost use mathlib.Core.Path.{_≡_};
 ghost use mathlib.Core.List.{_∷_, []};
 ghost use Prim.Native.Nat.{ℕ};

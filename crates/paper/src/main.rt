@@ -1,7 +1,6 @@
 // The paper's figures for Example 1 (k = 50), by the library: Table I for q = 8 and q = 16, the ones of the
 // check matrix with more check columns (footnote 6), and the reads of the naive way. What it prints is held to
 // the paper's numbers in the file stdout.
-use detection::whole::run_cycle;
 use libc::STDOUT_FILENO;
 use limits::answer::Answer;
 use limits::shape::Checked;
@@ -11,6 +10,7 @@ use matrix::order::ones;
 use matrix::weight::matrix_ones;
 use parity::Shape;
 use scrub::cycle::Cycle;
+use whole::run_cycle;
 
 fn number(answer: Answer) -> usize {
     match answer {

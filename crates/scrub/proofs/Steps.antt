@@ -20,9 +20,9 @@ use Rattle.schedule.proofs.Length.{lengthClaim}
 use Rattle.schedule.proofs.Flags.{flagClaim}
 use Rattle.schedule.proofs.Runs.{lineRun-take}
 use Rattle.schedule.proofs.Digit.{line}
-use Rattle.array.specs.Arrays.{rowAt, ifTaken, matchBytes}
+use Rattle.array.specs.Arrays.{cellCount, rowAt, ifTaken, matchBytes}
 use Rattle.scrub.specs.Record.{entryAt, cycleAt, isNext}
-use Rattle.scrub.specs.Calls.{Sized, State, started, startCall, countedRows, flaggedRows, resetRows, stepMatches, stepped, stepCall}
+use Rattle.scrub.specs.Calls.{Sized, State, fresh, started, startCall, countedRows, flaggedRows, resetRows, stepMatches, stepped, stepCall}
 use Rattle.scrub.specs.Run.{start, step, result}
 use Rattle.scrub.proofs.Asked.{start-asked, step-asked}
 use Rattle.scrub.proofs.CycleRecord.{record-count}
@@ -93,3 +93,9 @@ module _ (s : Shape) (st : State) where
         both true true = refl
         both true false = refl
         both false b = refl
+
+-- the fresh array has buffers of their lengths
+pub fresh-sized : (s : Shape) → Sized s (fresh s)
+unfolding fresh
+fresh-sized s =
+    record { cells = length-replicate (cellCount s) 0; counters = length-replicate (s .rows) 0; flags = length-replicate (s .rows) 0 }

@@ -1,7 +1,7 @@
 -- `ffi::calls::jorivelune_run` meets its contract: the method on the record tells what `store` leaves. Assumes nothing.
 use borrow.Author.Needs.{needs}
 use Rattle.scrub.specs.Methods.{stateOf}
-use Rattle.detection.specs.Whole.{cycleCall}
+use Rattle.whole.specs.Whole.{cycleCall}
 use Rattle.words.specs.Words.{cycleOf}
 use Rattle.words.proofs.Stored.{stored}
 use Rattle.ffi.proofs.calls.jorivelune_run.Statement.{statement}

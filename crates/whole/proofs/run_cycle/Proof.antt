@@ -1,4 +1,4 @@
--- `detection::whole::run_cycle` meets its contract: at each return the tests on the way say which question is the first no; the start is taken,
+-- `whole::run_cycle` meets its contract: at each return the tests on the way say which question is the first no; the start is taken,
 -- and `run_open` makes the steps. Assumes nothing.
 use mathlib.Core.Path.{_≡_, sym, _∙_, ap, subst}
 use mathlib.Core.List.{List, _∷_}
@@ -15,13 +15,13 @@ use Rattle.scrub.specs.Record.{entryAt}
 use Rattle.scrub.specs.Calls.{Sized, State, stepArguments, started}
 use Rattle.scrub.specs.Run.{start, step, runFrom}
 use Rattle.scrub.specs.Methods.{stateOf}
-use Rattle.detection.specs.Whole.{cycleRefusal, cycleCall}
+use Rattle.whole.specs.Whole.{cycleRefusal, cycleCall}
 use Rattle.scrub.proofs.Steps.{started-sized, start-state}
 use Rattle.scrub.proofs.Lent.{LentPassed, lent-passed, lent-rest, lent-refused}
 use Rattle.scrub.proofs.Given.{refused-ensured, done-ensured}
-use Rattle.detection.proofs.WholeCycle.{start-made}
-use Rattle.detection.proofs.whole.run_cycle.Statement.{statement}
-use Rattle.detection.proofs.whole.run_cycle.Tie as tie
+use Rattle.whole.proofs.WholeCycle.{start-made}
+use Rattle.whole.proofs.run_cycle.Statement.{statement}
+use Rattle.whole.proofs.run_cycle.Tie as tie
 
 -- the state that the call is given
 abbrev entry : tie.Start → State

@@ -1,4 +1,4 @@
--- `detection::whole::run_open` meets its contract: the loop's state is one of the cycle's (WholeCycle.antt). The measure is the lookups to come.
+-- `whole::run_open` meets its contract: the loop's state is one of the cycle's (WholeCycle.antt). The measure is the lookups to come.
 -- Assumes nothing.
 use mathlib.Core.Path.{_≡_, sym, _∙_}
 use Prim.Native.Nat.{suc, _-_, _<_}
@@ -6,9 +6,9 @@ use native.Mathlib.Omega.{arith}
 use borrow.Author.Needs.{needs}
 use Rattle.parity.specs.Matrix.{lookups}
 use Rattle.scrub.specs.Methods.{stateOf}
-use Rattle.detection.proofs.WholeCycle.{Going, going-start, going-step, going-end}
-use Rattle.detection.proofs.whole.run_open.Statement.{statement}
-use Rattle.detection.proofs.whole.run_open.Tie as tie
+use Rattle.whole.proofs.WholeCycle.{Going, going-start, going-step, going-end}
+use Rattle.whole.proofs.run_open.Statement.{statement}
+use Rattle.whole.proofs.run_open.Tie as tie
 
 abbrev Inv-loop : tie.InvT-loop
 Inv-loop shape cells counters₀ flags₀ matches₀ now₀ counters flags matches now =

@@ -16,7 +16,7 @@ ghost use Rattle.array.specs.Arrays.{cellCount, matchBytes};
 ghost use Rattle.scrub.specs.Record.{entryAt, cycleAt};
 ghost use Rattle.scrub.specs.Run.{step, runFrom};
 ghost use Rattle.scrub.specs.Methods.{stateOf, changed};
-ghost use Rattle.detection.specs.Whole.{cycleCall};
+ghost use Rattle.whole.specs.Whole.{cycleCall};
 
 // The steps of a cycle that is just started.
 fn run_open(
