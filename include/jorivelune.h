@@ -1,0 +1,94 @@
+// The library's calls for C on x86-64. `rt staticlib ffi` makes target/staticlib/libffi.a to link.
+//
+// Each call answers with the number of document 01's first question that fails, 0 where it is taken. A refused
+// call leaves the record and every buffer as they were. A buffer comes with its length, and any length may be
+// given: question 6 refuses a wrong one. Buffers of one call do not overlap.
+#ifndef JORIVELUNE_H
+#define JORIVELUNE_H
+
+#include <stdbool.h>
+#include <stddef.h>
+#include <stdint.h>
+
+#ifdef __cplusplus
+extern "C" {
+#endif
+
+// The shape of an array: rho, b, tau, k and m. Any numbers may be given: questions 1 to 5 say which are taken.
+struct jorivelune_shape {
+    size_t radix;
+    size_t digits;
+    size_t errors;
+    size_t width;
+    size_t rows;
+};
+
+// The cycle record: six words. The phase is 0 idle, 1 open or 2 complete; any other is read as idle. A record
+// of zeros is that of a fresh array.
+enum {
+    JORIVELUNE_PHASE,
+    JORIVELUNE_ROW,
+    JORIVELUNE_DIGIT,
+    JORIVELUNE_COLUMN,
+    JORIVELUNE_FACTOR,
+    JORIVELUNE_COUNT,
+    JORIVELUNE_WORDS
+};
+
+// ---- calls that have the record
+
+uint8_t jorivelune_clear(size_t record[JORIVELUNE_WORDS], struct jorivelune_shape shape,
+                         uint8_t *cells, size_t cells_length,
+                         uint8_t *counters, size_t counters_length,
+                         uint8_t *flags, size_t flags_length);
+
+uint8_t jorivelune_program(size_t record[JORIVELUNE_WORDS], struct jorivelune_shape shape,
+                           uint8_t *cells, size_t cells_length,
+                           size_t row, const uint8_t *levels, size_t levels_length);
+
+uint8_t jorivelune_start(size_t record[JORIVELUNE_WORDS], struct jorivelune_shape shape,
+                         uint8_t *counters, size_t counters_length,
+                         uint8_t *flags, size_t flags_length);
+
+uint8_t jorivelune_step(size_t record[JORIVELUNE_WORDS], struct jorivelune_shape shape,
+                        const uint8_t *cells, size_t cells_length,
+                        uint8_t *counters, size_t counters_length,
+                        uint8_t *flags, size_t flags_length,
+                        uint8_t *matches, size_t matches_length);
+
+// A start and all the steps of a cycle.
+uint8_t jorivelune_run(size_t record[JORIVELUNE_WORDS], struct jorivelune_shape shape,
+                       const uint8_t *cells, size_t cells_length,
+                       uint8_t *counters, size_t counters_length,
+                       uint8_t *flags, size_t flags_length,
+                       uint8_t *matches, size_t matches_length);
+
+// ---- calls on the cells alone
+
+uint8_t jorivelune_drift(struct jorivelune_shape shape, uint8_t *cells, size_t cells_length,
+                         size_t row, size_t column, uint8_t level);
+
+uint8_t jorivelune_read(struct jorivelune_shape shape, const uint8_t *cells, size_t cells_length,
+                        size_t row, uint8_t *out, size_t out_length);
+
+// The check cells of one row of n cells from its first k.
+uint8_t jorivelune_encode(struct jorivelune_shape shape, uint8_t *row, size_t row_length);
+
+// The number of matches goes to count, 0 where the call is refused.
+uint8_t jorivelune_lookup(struct jorivelune_shape shape, const uint8_t *cells, size_t cells_length,
+                          const uint8_t *inputs, size_t inputs_length,
+                          uint8_t *matches, size_t matches_length, size_t *count);
+
+// The row goes to found: m where none matches, 0 where the call is refused.
+uint8_t jorivelune_first_match(struct jorivelune_shape shape, const uint8_t *cells, size_t cells_length,
+                               const uint8_t *inputs, size_t inputs_length, size_t *found);
+
+// Whether the row is sound goes to holds, false where the call is refused.
+uint8_t jorivelune_sound(struct jorivelune_shape shape, const uint8_t *cells, size_t cells_length,
+                         size_t row, bool *holds);
+
+#ifdef __cplusplus
+}
+#endif
+
+#endif
