@@ -15,7 +15,7 @@ use naive::Vector;
 use named::{Answer, Arguments, Name, Parts, Tally, NAMES};
 use peer::random::{forged, limit_shape, small_shape, some_length, some_number, spoil, Random};
 use peer::{Cycle, Layout, Phase, Shape};
-use proved_calls::Words;
+use proved_calls::{words_of, Words};
 
 const SEED: u64 = 20_261_116;
 
@@ -95,22 +95,6 @@ fn cycle_of(words: &Words) -> Cycle {
         factor,
         count,
     }
-}
-
-fn words_of(cycle: Cycle) -> Words {
-    let phase = match cycle.phase {
-        Phase::Idle => 0,
-        Phase::Open => 1,
-        Phase::Complete => 2,
-    };
-    [
-        phase,
-        cycle.row,
-        cycle.digit,
-        cycle.column,
-        cycle.factor,
-        cycle.count,
-    ]
 }
 
 /// One call with its arguments and the lengths that are lent.

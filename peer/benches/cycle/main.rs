@@ -12,8 +12,8 @@ mod proved_calls;
 use std::time::{Duration, Instant};
 
 use peer::random::Random;
-use peer::{Cycle, Phase, Shape};
-use proved_calls::Words;
+use peer::{Cycle, Shape};
+use proved_calls::{words_of, Words};
 
 /// The least time that is spent on each line of the table.
 const PATIENCE: Duration = Duration::from_secs(1);
@@ -275,22 +275,6 @@ fn rust_steps(shape: Shape, steps: usize, state: &mut State) -> Vec<Duration> {
     assert_eq!(now.1, Ok(()));
     *words = words_of(now.0);
     pieces
-}
-
-fn words_of(cycle: Cycle) -> Words {
-    let phase = match cycle.phase {
-        Phase::Idle => 0,
-        Phase::Open => 1,
-        Phase::Complete => 2,
-    };
-    [
-        phase,
-        cycle.row,
-        cycle.digit,
-        cycle.column,
-        cycle.factor,
-        cycle.count,
-    ]
 }
 
 fn c_steps(shape: Shape, steps: usize, state: &mut State) -> Vec<Duration> {

@@ -3,7 +3,7 @@
 
 #![allow(dead_code)]
 
-use peer::Shape;
+use peer::{Cycle, Phase, Shape};
 
 /// What the calls say where there is no archive.
 const MISSING: &str = "target/staticlib/libffi.a is missing: run rt staticlib ffi";
@@ -11,6 +11,23 @@ const MISSING: &str = "target/staticlib/libffi.a is missing: run rt staticlib ff
 /// The record: phase (0 idle, 1 open, 2 complete), check row, digit, column,
 /// factor, count.
 pub type Words = [usize; 6];
+
+/// The record as it crosses.
+pub fn words_of(cycle: Cycle) -> Words {
+    let phase = match cycle.phase {
+        Phase::Idle => 0,
+        Phase::Open => 1,
+        Phase::Complete => 2,
+    };
+    [
+        phase,
+        cycle.row,
+        cycle.digit,
+        cycle.column,
+        cycle.factor,
+        cycle.count,
+    ]
+}
 
 /// The shape as it crosses.
 #[repr(C)]
