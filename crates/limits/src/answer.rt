@@ -1,4 +1,4 @@
-// What the calls of this crate answer, beside the bytes that they write.
+// What the calls answer, here and in the crates above, beside the bytes that they write.
 
 // A number, or the number of the first question that fails.
 pub enum Answer {

@@ -12,7 +12,7 @@ use borrow.Author.Tests.{eqb-true, leb-true}
 use Rattle.parity.specs.Lists.{keep, sumTo, everyTo, filledFrom, differences}
 use Rattle.parity.specs.Shape.{digit}
 use Rattle.parity.specs.Matrix.{weight, ofWeight, columnOrder, eligible}
-use Rattle.parity.proofs.ListLaws.{everyTo-at, differences-zero}
+use Rattle.parity.proofs.ListLaws.{keep-append, everyTo-at, differences-zero}
 use Rattle.parity.proofs.ColumnOrder.{orderClaim}
 use Rattle.matrix.specs.Matrices.{choose, ruleWeight}
 
@@ -66,16 +66,6 @@ choice-fits r w rows weights = leb-true _ _ (everyTo-at 8 (fits-test r) (everyTo
 pub start-end : start 8 ≡ 255
 unfolding choose
 start-end = refl
-
-keep-append : (p : ℕ → Bool) (xs ys : List ℕ) → keep p (xs ++ ys) ≡ keep p xs ++ keep p ys
-keep-append p [] ys = refl
-keep-append p (x ∷ xs) ys = go (p x) (keep-append p xs ys)
-  where
-    go :
-        (b : Bool) → keep p (xs ++ ys) ≡ keep p xs ++ keep p ys
-        → cond b (x ∷ keep p (xs ++ ys)) (keep p (xs ++ ys)) ≡ cond b (x ∷ keep p xs) (keep p xs) ++ keep p ys
-    go true e = ap (λ l. x ∷ l) e
-    go false e = e
 
 module _ (τ r w : ℕ) (rows : r ≤ 8) (weights : w < 8) where
   pub count-fits : start w + count τ r w ≤ 255

@@ -16,6 +16,17 @@ use Rattle.parity.specs.Lists.{tabulate, joined, keep, every, everyTo, d
 use Rattle.parity.specs.Claims.{Among}
 
 module _ {ℓ} {A : Type ℓ} where
+  -- ---- keep
+
+  pub keep-append : (p : A → Bool) (xs ys : List A) → keep p (xs ++ ys) ≡ keep p xs ++ keep p ys
+  keep-append p [] ys = refl
+  keep-append p (x ∷ xs) ys = go (p x) (keep-append p xs ys)
+    where
+      go : (b : Bool) → keep p (xs ++ ys) ≡ keep p xs ++ keep p ys
+          → cond b (x ∷ keep p (xs ++ ys)) (keep p (xs ++ ys)) ≡ cond b (x ∷ keep p xs) (keep p xs) ++ keep p ys
+      go true e = ap (λ zs. x ∷ zs) e
+      go false e = e
+
   -- ---- tabulate
 
   pub length-tabulate : (n : ℕ) (f : ℕ → A) → length (tabulate n f) ≡ n

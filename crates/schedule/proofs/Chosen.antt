@@ -11,6 +11,7 @@ use lib.ListN.{length, getD, take}
 use lib.Seq.{take-suc, length-take-le}
 use Rattle.parity.specs.Lists.{tabulate, joined, keep}
 use Rattle.parity.specs.Matrix.{bit, placesFrom}
+use Rattle.parity.proofs.ListLaws.{keep-append}
 use Rattle.schedule.proofs.Stands.{Stands, stands-joined, joined-part}
 
 -- f i for each i below n that passes
@@ -34,15 +35,6 @@ module _ {ℓ} {A : Type ℓ} where
       only : (b : Bool) (x : A) (t : ℕ) → t < length (cond b (x ∷ []) []) → (b ≡ true) × (t ≡ 0)
       only true x t l = (refl, omega arith)
       only false x t l = absurd (not-suc-le-zero l)
-
-  keep-append : (p : A → Bool) (xs ys : List A) → keep p (xs ++ ys) ≡ keep p xs ++ keep p ys
-  keep-append p [] ys = refl
-  keep-append p (x ∷ xs) ys = go (p x) (keep-append p xs ys)
-    where
-      go : (b : Bool) → keep p (xs ++ ys) ≡ keep p xs ++ keep p ys
-          → cond b (x ∷ keep p (xs ++ ys)) (keep p (xs ++ ys)) ≡ cond b (x ∷ keep p xs) (keep p xs) ++ keep p ys
-      go true e = ap (λ zs. x ∷ zs) e
-      go false e = e
 
   pub keep-chosen : (p : A → Bool) (n : ℕ) (f : ℕ → A) → keep p (tabulate n f) ≡ chosen n (λ i. p (f i)) f
   keep-chosen p zero f = refl
