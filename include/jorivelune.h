@@ -2,7 +2,13 @@
 //
 // Each call answers with the number of document 01's first question that fails, 0 where it is taken. A refused
 // call leaves the record and every buffer as they were. A buffer comes with its length, and any length may be
-// given: question 6 refuses a wrong one. Buffers of one call do not overlap.
+// given: question 6 refuses a wrong one.
+//
+// What a caller owes, since no call can ask for it:
+// - each pointer is valid for the length that is given with it, for reading, and for writing where it is not const,
+//   also where the length is 0;
+// - no two buffers of one call overlap, nor does the record or an answer lie in a buffer;
+// - the record and the pointers for answers (count, found, holds) are writable and aligned.
 #ifndef JORIVELUNE_H
 #define JORIVELUNE_H
 
@@ -27,7 +33,7 @@ struct jorivelune_shape {
 // of zeros is that of a fresh array.
 enum {
     JORIVELUNE_PHASE,
-    JORIVELUNE_ROW,
+    JORIVELUNE_CHECK,
     JORIVELUNE_DIGIT,
     JORIVELUNE_COLUMN,
     JORIVELUNE_FACTOR,

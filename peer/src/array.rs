@@ -4,30 +4,19 @@ use crate::code::{encode, is_codeword};
 use crate::comparator::{answers, match_byte};
 use crate::cycle::Cycle;
 use crate::shape::{Layout, Refusal, Shape};
+use crate::state::State;
 
-/// Makes the fresh array: cells, counters and flags 0, record idle.
-pub fn clear(
-    shape: Shape,
-    cells: &mut [u8],
-    counters: &mut [u8],
-    flags: &mut [u8],
-    cycle: Cycle,
-) -> (Cycle, Result<(), Refusal>) {
-    match ask_clear(shape, cells, counters, flags) {
+/// Makes the fresh array: all bytes of the state 0, record idle.
+pub fn clear(shape: Shape, state: State<&mut [u8]>, cycle: Cycle) -> (Cycle, Result<(), Refusal>) {
+    match state.ask(shape) {
         Err(refusal) => (cycle, Err(refusal)),
-        Ok(()) => {
-            cells.fill(0);
-            counters.fill(0);
-            flags.fill(0);
+        Ok(_) => {
+            for buffer in state.into_array() {
+                buffer.fill(0);
+            }
             (Cycle::IDLE, Ok(()))
         }
     }
-}
-
-fn ask_clear(shape: Shape, cells: &[u8], counters: &[u8], flags: &[u8]) -> Result<(), Refusal> {
-    let layout = ask_cells(shape, cells)?;
-    layout.ask_length(counters, layout.rows())?;
-    layout.ask_length(flags, layout.rows())
 }
 
 /// Programs a row with k levels and their check cells. The record becomes

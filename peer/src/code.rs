@@ -9,7 +9,7 @@ const MAX_DIGITS: usize = 8;
 /// One number for each digit of a level, the least digit first.
 type Digits = [u16; MAX_DIGITS];
 
-/// For each check row, the sums of the digits of its cells. At most 255 cells
+/// For each check, the sums of the digits of its cells. At most 255 cells
 /// with digits of at most 254 are summed, so that two bytes hold a sum.
 type Sums = [Digits; MAX_CHECKS];
 
@@ -21,10 +21,10 @@ type Sums = [Digits; MAX_CHECKS];
 /// If the row has not n cells.
 pub fn encode(layout: &Layout, row: &mut [u8]) {
     assert_eq!(row.len(), layout.columns(), "a row has n cells");
-    let (rules, checks) = row.split_at_mut(layout.width());
-    let sums = digit_sums(layout, rules);
-    for (check, sums) in checks.iter_mut().zip(&sums) {
-        *check = balancing_level(layout, sums);
+    let (rule_cells, check_cells) = row.split_at_mut(layout.width());
+    let sums = digit_sums(layout, rule_cells);
+    for (cell, sums) in check_cells.iter_mut().zip(&sums) {
+        *cell = balancing_level(layout, sums);
     }
 }
 
@@ -38,8 +38,8 @@ pub fn encode_row(shape: Shape, row: &mut [u8]) -> Result<(), Refusal> {
     Ok(())
 }
 
-/// Whether a row of n cells is sound: all its cells are below q, and each
-/// digit sums to 0 mod the radix over each check row.
+/// Whether a row of n cells is sound, a codeword: all its cells are below q, and
+/// each digit sums to 0 mod the radix over each check.
 ///
 /// # Panics
 ///
@@ -58,8 +58,8 @@ fn digit_sums(layout: &Layout, cells: &[u8]) -> Sums {
     let mut sums = [[0; MAX_DIGITS]; MAX_CHECKS];
     for (ones, &cell) in layout.matrix().zip(cells) {
         let digits = digits(layout, cell);
-        for (row, sums) in sums.iter_mut().enumerate().take(layout.checks()) {
-            let one = u16::from(ones >> row & 1);
+        for (check, sums) in sums.iter_mut().enumerate().take(layout.checks()) {
+            let one = u16::from(ones >> check & 1);
             for (sum, digit) in sums.iter_mut().zip(&digits) {
                 *sum += one * digit;
             }

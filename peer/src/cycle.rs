@@ -1,13 +1,14 @@
 //! The detection cycle: its record, start, step, and one whole cycle.
 //!
-//! Schedule: check rows ℓ upwards; within it digits s from the highest down;
+//! Schedule: checks ℓ upwards; within it digits s from the highest down;
 //! within it the columns j of J(ℓ) upwards; within it the factors a from 1
 //! below q / ρ^s that ρ does not divide, upwards. The vector is a × ρ^s in
 //! column j and 0 elsewhere.
 
 use crate::comparator::answers;
-use crate::matrix::ones_in_row;
+use crate::matrix::ones_in_check;
 use crate::shape::{Layout, Refusal, Shape};
+use crate::state::State;
 
 /// Where a cycle is.
 #[derive(Clone, Copy, Debug, PartialEq, Eq, Hash)]
@@ -20,14 +21,14 @@ pub enum Phase {
     Complete,
 }
 
-/// The cycle record. While the cycle is open, check row, digit, column and
-/// factor are those of the next vector; they are 0 otherwise.
+/// The cycle record. While the cycle is open, check, digit, column and factor
+/// are those of the next test vector; they are 0 otherwise.
 #[derive(Clone, Copy, Debug, PartialEq, Eq, Hash)]
 pub struct Cycle {
     /// Where the cycle is.
     pub phase: Phase,
-    /// ℓ, the check row.
-    pub row: usize,
+    /// ℓ, the check.
+    pub check: usize,
     /// s, the digit.
     pub digit: usize,
     /// j, the column.
@@ -42,7 +43,7 @@ impl Cycle {
     /// The idle record.
     pub const IDLE: Cycle = Cycle {
         phase: Phase::Idle,
-        row: 0,
+        check: 0,
         digit: 0,
         column: 0,
         factor: 0,
@@ -53,7 +54,7 @@ impl Cycle {
     pub fn open(layout: &Layout) -> Cycle {
         Cycle {
             phase: Phase::Open,
-            row: 0,
+            check: 0,
             digit: layout.digits() - 1,
             column: next_in_support(layout, 0, 0),
             factor: 1,
@@ -79,7 +80,7 @@ impl Cycle {
     /// How many vectors come before this record's one, or none where the
     /// schedule has no such vector.
     fn rank(&self, layout: &Layout) -> Option<usize> {
-        if self.row >= layout.checks() || self.digit >= layout.digits() {
+        if self.check >= layout.checks() || self.digit >= layout.digits() {
             return None;
         }
         let radix = layout.radix();
@@ -87,13 +88,13 @@ impl Cycle {
         if self.factor >= bound || self.factor.is_multiple_of(radix) {
             return None;
         }
-        let place = place_in_support(layout, self.row, self.column)?;
-        let size = layout.support_size(self.row);
-        let earlier_rows = layout.weight_before(self.row) * (layout.levels() - 1);
+        let place = place_in_support(layout, self.check, self.column)?;
+        let size = layout.support_size(self.check);
+        let earlier_checks = layout.weight_before(self.check) * (layout.levels() - 1);
         let earlier_digits = size * (bound / radix - 1);
         let earlier_columns = place * (bound - bound / radix);
         let earlier_factors = self.factor - self.factor / radix - 1;
-        Some(earlier_rows + earlier_digits + earlier_columns + earlier_factors)
+        Some(earlier_checks + earlier_digits + earlier_columns + earlier_factors)
     }
 
     /// The factors of the digit lie below this power of the radix.
@@ -106,15 +107,14 @@ impl Cycle {
         (self.factor * layout.radix().pow(self.digit as u32)) as u8
     }
 
-    /// Whether the vector is the last one of its digit: the last column of a
-    /// check row's set is its check column, and the last factor is one below
-    /// the bound.
+    /// Whether the vector is the last one of its digit: the last column of J(ℓ)
+    /// is the check column of ℓ, and the last factor is one below the bound.
     fn ends_digit(&self, layout: &Layout) -> bool {
-        self.column == layout.width() + self.row && self.factor + 1 == self.bound(layout)
+        self.column == layout.width() + self.check && self.factor + 1 == self.bound(layout)
     }
 
-    /// Whether the vector is the last one of its check row.
-    fn ends_row(&self, layout: &Layout) -> bool {
+    /// Whether the vector is the last one of its check.
+    fn ends_check(&self, layout: &Layout) -> bool {
         self.digit == 0 && self.ends_digit(layout)
     }
 
@@ -128,18 +128,18 @@ impl Cycle {
         }
         next.factor = 1;
         if !self.ends_digit(layout) {
-            next.column = next_in_support(layout, self.row, self.column + 1);
+            next.column = next_in_support(layout, self.check, self.column + 1);
             return next;
         }
         if self.digit > 0 {
             next.digit = self.digit - 1;
-        } else if self.row + 1 < layout.checks() {
-            next.row = self.row + 1;
+        } else if self.check + 1 < layout.checks() {
+            next.check = self.check + 1;
             next.digit = layout.digits() - 1;
         } else {
             return Cycle::complete(next.count);
         }
-        next.column = next_in_support(layout, next.row, 0);
+        next.column = next_in_support(layout, next.check, 0);
         next
     }
 }
@@ -154,72 +154,71 @@ fn next_factor(factor: usize, radix: usize) -> usize {
 }
 
 /// The first column of J(ℓ) from the given one on; the check column at last.
-fn next_in_support(layout: &Layout, row: usize, from: usize) -> usize {
+fn next_in_support(layout: &Layout, check: usize, from: usize) -> usize {
     layout
         .rules()
         .iter()
         .skip(from)
-        .position(|rule| rule >> row & 1 == 1)
-        .map_or(layout.width() + row, |ahead| from + ahead)
+        .position(|rule| rule >> check & 1 == 1)
+        .map_or(layout.width() + check, |ahead| from + ahead)
 }
 
 /// How many columns of J(ℓ) come before the given one, or none where it is not
 /// in the set.
-fn place_in_support(layout: &Layout, row: usize, column: usize) -> Option<usize> {
+fn place_in_support(layout: &Layout, check: usize, column: usize) -> Option<usize> {
     let rules = layout.rules();
     match rules.get(column) {
-        Some(rule) if rule >> row & 1 == 1 => Some(ones_in_row(&rules[..column], row)),
-        None if column == layout.width() + row => Some(ones_in_row(rules, row)),
+        Some(rule) if rule >> check & 1 == 1 => Some(ones_in_check(&rules[..column], check)),
+        None if column == layout.width() + check => Some(ones_in_check(rules, check)),
         _ => None,
     }
 }
 
-/// Starts a cycle: counters and flags 0, record open with count 0.
-pub fn start(
-    shape: Shape,
-    counters: &mut [u8],
-    flags: &mut [u8],
-    cycle: Cycle,
-) -> (Cycle, Result<(), Refusal>) {
-    match ask_start(shape, counters, flags) {
+/// Starts a cycle: counters and flags 0, record open with count 0. The cells
+/// are not its matter, and question 6 is not asked of them.
+pub fn start(shape: Shape, state: State<&mut [u8]>, cycle: Cycle) -> (Cycle, Result<(), Refusal>) {
+    match ask_start(shape, &state) {
         Err(refusal) => (cycle, Err(refusal)),
         Ok(layout) => {
-            counters.fill(0);
-            flags.fill(0);
+            state.counters.fill(0);
+            state.flags.fill(0);
             (Cycle::open(&layout), Ok(()))
         }
     }
 }
 
-fn ask_start(shape: Shape, counters: &[u8], flags: &[u8]) -> Result<Layout, Refusal> {
+fn ask_start(shape: Shape, state: &State<&mut [u8]>) -> Result<Layout, Refusal> {
     let layout = shape.layout()?;
-    layout.ask_length(counters, layout.rows())?;
-    layout.ask_length(flags, layout.rows())?;
+    layout.ask_length(state.counters, layout.rows())?;
+    layout.ask_length(state.flags, layout.rows())?;
     Ok(layout)
 }
 
 /// Makes the next lookup of the schedule: writes the match bytes, adds each to
 /// its row's counter mod the radix, and moves the record on. At the end of a
-/// digit the rows whose counter is not 0 are flagged; at the end of a check
-/// row the counters return to 0.
+/// digit the rows whose counter is not 0 are flagged; at the end of a check the
+/// counters return to 0.
 pub fn step(
     shape: Shape,
-    cells: &[u8],
-    counters: &mut [u8],
-    flags: &mut [u8],
+    state: State<&mut [u8]>,
     matches: &mut [u8],
     cycle: Cycle,
 ) -> (Cycle, Result<(), Refusal>) {
-    let layout = match ask_step(shape, cells, counters, flags, matches, &cycle) {
+    let layout = match ask_step(shape, &state, matches, &cycle) {
         Err(refusal) => return (cycle, Err(refusal)),
         Ok(layout) => layout,
     };
+    let State {
+        cells,
+        counters,
+        flags,
+    } = state;
     look_up(&layout, &cycle, cells, matches);
     add_matches(&layout, counters, matches);
     if cycle.ends_digit(&layout) {
         raise_flags(counters, flags);
     }
-    if cycle.ends_row(&layout) {
+    if cycle.ends_check(&layout) {
         counters.fill(0);
     }
     (cycle.next(&layout), Ok(()))
@@ -227,13 +226,11 @@ pub fn step(
 
 fn ask_step(
     shape: Shape,
-    cells: &[u8],
-    counters: &[u8],
-    flags: &[u8],
+    state: &State<&mut [u8]>,
     matches: &[u8],
     cycle: &Cycle,
 ) -> Result<Layout, Refusal> {
-    let layout = ask_lent(shape, cells, counters, flags, matches)?;
+    let layout = ask_lent(shape, state, matches)?;
     if cycle.awaits_step(&layout) {
         Ok(layout)
     } else {
@@ -242,17 +239,8 @@ fn ask_step(
 }
 
 /// Questions 1 to 5, and question 6 for all buffers of a step.
-fn ask_lent(
-    shape: Shape,
-    cells: &[u8],
-    counters: &[u8],
-    flags: &[u8],
-    matches: &[u8],
-) -> Result<Layout, Refusal> {
-    let layout = shape.layout()?;
-    layout.ask_length(cells, layout.cells())?;
-    layout.ask_length(counters, layout.rows())?;
-    layout.ask_length(flags, layout.rows())?;
+fn ask_lent(shape: Shape, state: &State<&mut [u8]>, matches: &[u8]) -> Result<Layout, Refusal> {
+    let layout = state.ask(shape)?;
     layout.ask_length(matches, layout.rows())?;
     Ok(layout)
 }
@@ -261,18 +249,16 @@ fn ask_lent(
 /// the last step. Question 9 is not asked, since a start takes any record.
 pub fn run(
     shape: Shape,
-    cells: &[u8],
-    counters: &mut [u8],
-    flags: &mut [u8],
+    mut state: State<&mut [u8]>,
     matches: &mut [u8],
     cycle: Cycle,
 ) -> (Cycle, Result<(), Refusal>) {
-    if let Err(refusal) = ask_lent(shape, cells, counters, flags, matches) {
+    if let Err(refusal) = ask_lent(shape, &state, matches) {
         return (cycle, Err(refusal));
     }
-    let (mut now, mut answer) = start(shape, counters, flags, cycle);
+    let (mut now, mut answer) = start(shape, state.lend(), cycle);
     while answer.is_ok() && now.phase == Phase::Open {
-        (now, answer) = step(shape, cells, counters, flags, matches, now);
+        (now, answer) = step(shape, state.lend(), matches, now);
     }
     (now, answer)
 }

@@ -10,6 +10,7 @@ use std::fmt::Write;
 use crate::array::{drift, program};
 use crate::cycle::{self, Cycle};
 use crate::shape::{Layout, Refusal, Shape};
+use crate::state::State;
 
 /// The largest number of bytes of a job.
 pub const MAX_BYTES: usize = 32_768;
@@ -58,11 +59,11 @@ pub fn job(input: &[u8]) -> Vec<u8> {
 fn run(input: &[u8]) -> Result<String, Refusal> {
     let parts = split(unwrap_header(input)?)?;
     let layout = parts.layout;
-    let mut cells = vec![0; layout.cells()];
-    program_rows(&layout, parts.levels, &mut cells)?;
-    apply_drifts(&layout, parts.drifts, &mut cells)?;
-    let (cycle, flags) = run_cycle(&layout, &cells)?;
-    Ok(report(&layout, &cycle, &flags))
+    let mut state = State::fresh(&layout);
+    program_rows(&layout, parts.levels, &mut state.cells)?;
+    apply_drifts(&layout, parts.drifts, &mut state.cells)?;
+    let cycle = run_cycle(&layout, &mut state)?;
+    Ok(report(&layout, &cycle, &state.flags))
 }
 
 /// Questions 10 to 12: gives what follows the length.
@@ -138,22 +139,11 @@ fn drift_of(bytes: &[u8]) -> Drift {
     }
 }
 
-/// Runs one cycle; gives the record it leaves and the flags.
-fn run_cycle(layout: &Layout, cells: &[u8]) -> Result<(Cycle, Vec<u8>), Refusal> {
-    let shape = layout.shape();
-    let mut counters = vec![0; layout.rows()];
-    let mut flags = vec![0; layout.rows()];
+/// Runs one cycle; gives the record it leaves.
+fn run_cycle(layout: &Layout, state: &mut State<Vec<u8>>) -> Result<Cycle, Refusal> {
     let mut matches = vec![0; layout.rows()];
-    let (cycle, answer) = cycle::run(
-        shape,
-        cells,
-        &mut counters,
-        &mut flags,
-        &mut matches,
-        Cycle::IDLE,
-    );
-    answer?;
-    Ok((cycle, flags))
+    let (cycle, answer) = cycle::run(layout.shape(), state.lend(), &mut matches, Cycle::IDLE);
+    answer.map(|()| cycle)
 }
 
 /// One line for the array, then one per row.

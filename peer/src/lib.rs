@@ -1,35 +1,43 @@
 //! A threshold array with check columns, its lookups and its detection cycle.
 //!
 //! The array keeps its state in memory lent by the caller: cells (row after
-//! row), one counter and one flag byte per row, and a cycle record. Every call
-//! asks its questions first; a refused call changes nothing.
+//! row), one counter and one flag byte per row; a cycle record stands beside
+//! it. Every call asks its questions first; a refused call changes nothing.
 //!
 //! From the bottom up:
 //! - [`shape`]: the shape of an array, questions 1 to 5, the refusals;
 //! - [`matrix`]: the parity-check matrix;
 //! - [`code`]: the encoder of the check cells and the codeword test;
 //! - [`comparator`]: the rule of a match line;
+//! - [`state`]: the lent state;
 //! - [`cycle`]: the cycle record, start, step, and one whole cycle;
 //! - [`mod@array`]: the other calls on an array;
+//! - [`call`]: all calls as one enum, and the making of one;
+//! - [`list`]: lists of calls on one array;
 //! - [`mod@job`]: the job program as a function;
-//! - [`list`] and [`random`]: lists of calls and generators for tests.
+//! - [`testing`]: what the tests share.
 
 #![forbid(unsafe_code)]
 #![warn(missing_docs)]
 
 pub mod array;
+pub mod call;
 pub mod code;
 pub mod comparator;
 pub mod cycle;
 pub mod job;
 pub mod list;
 pub mod matrix;
-pub mod random;
 pub mod shape;
+pub mod state;
+pub mod testing;
 
 pub use array::{clear, drift, first_match, lookup, program, read, sound};
+pub use call::{make, Answer, Call, Name};
 pub use code::{encode, encode_row, is_codeword};
 pub use comparator::match_byte;
 pub use cycle::{run, start, step, Cycle, Phase};
 pub use job::job;
+pub use list::Array;
 pub use shape::{Layout, Refusal, Shape};
+pub use state::State;

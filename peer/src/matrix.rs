@@ -1,8 +1,8 @@
 //! The parity-check matrix.
 //!
 //! A column of the matrix is a number of as many bits as there are check
-//! columns; bit ℓ says whether the column has a one in check row ℓ. Check
-//! column k + ℓ is 2^ℓ, so only the rule columns are kept in tables.
+//! columns; bit ℓ says whether the column has a one in check ℓ. Check column
+//! k + ℓ is 2^ℓ, so only the rule columns are kept in tables.
 
 use crate::shape::{Layout, Shape};
 
@@ -60,18 +60,18 @@ const fn all_rule_columns() -> [[[u8; MAX_WIDTH]; MAX_CHECKS]; Shape::MAX_ERRORS
 
 /// The entries of the order below 2^checks that may serve as rule columns.
 const fn chosen(errors: usize, checks: usize) -> [u8; MAX_WIDTH] {
-    let mut columns = [0; MAX_WIDTH];
+    let mut matrix = [0; MAX_WIDTH];
     let mut filled = 0;
     let mut place = 0;
     while place < ORDER.len() {
         let column = ORDER[place];
         if (column as usize) < 1 << checks && may_be_rule(errors, column) {
-            columns[filled] = column;
+            matrix[filled] = column;
             filled += 1;
         }
         place += 1;
     }
-    columns
+    matrix
 }
 
 /// Two ones or more for two changed cells; an odd count of ones, three or
@@ -99,49 +99,52 @@ pub(crate) fn rule_columns(errors: usize, checks: usize, width: usize) -> &'stat
 }
 
 impl Layout {
-    /// The columns of the check matrix: rule columns, then check columns.
+    /// The columns of the parity-check matrix: rule columns, then check
+    /// columns.
     pub fn matrix(&self) -> impl Iterator<Item = u8> {
-        let checks = (0..self.checks()).map(|row| 1 << row);
-        self.rules().iter().copied().chain(checks)
+        let check_columns = (0..self.checks()).map(|check| 1 << check);
+        self.rules().iter().copied().chain(check_columns)
     }
 
-    /// J(ℓ): the columns with a one in the check row, in increasing order.
+    /// J(ℓ): the columns with a one in the check, in increasing order.
     ///
     /// # Panics
     ///
-    /// If there is no such check row.
-    pub fn support(&self, row: usize) -> impl Iterator<Item = usize> {
-        assert!(row < self.checks(), "no such check row");
+    /// If there is no such check.
+    pub fn support(&self, check: usize) -> impl Iterator<Item = usize> {
+        assert!(check < self.checks(), "no such check");
         self.matrix()
             .enumerate()
-            .filter(move |(_, ones)| ones >> row & 1 == 1)
+            .filter(move |(_, ones)| ones >> check & 1 == 1)
             .map(|(column, _)| column)
     }
 
-    /// The size of J(ℓ): the rule columns with a one in the check row, and the
-    /// row's own check column.
+    /// The size of J(ℓ): the rule columns with a one in the check, and its own
+    /// check column.
     ///
     /// # Panics
     ///
-    /// If there is no such check row.
-    pub fn support_size(&self, row: usize) -> usize {
-        assert!(row < self.checks(), "no such check row");
-        ones_in_row(self.rules(), row) + 1
+    /// If there is no such check.
+    pub fn support_size(&self, check: usize) -> usize {
+        assert!(check < self.checks(), "no such check");
+        ones_in_check(self.rules(), check) + 1
     }
 
     /// The sizes of J(0) to J(ℓ − 1) together.
     ///
     /// # Panics
     ///
-    /// If there is no check row ℓ.
-    pub fn weight_before(&self, row: usize) -> usize {
-        assert!(row < self.checks(), "no such check row");
-        ones_before_row(self.rules(), row) + row
+    /// If there is no check ℓ.
+    pub fn weight_before(&self, check: usize) -> usize {
+        assert!(check < self.checks(), "no such check");
+        ones_before_check(self.rules(), check) + check
     }
 
     /// W: the sizes of all J(ℓ) together.
     pub fn weight(&self) -> usize {
-        (0..self.checks()).map(|row| self.support_size(row)).sum()
+        (0..self.checks())
+            .map(|check| self.support_size(check))
+            .sum()
     }
 
     /// The number of vectors in a detection cycle.
@@ -150,17 +153,17 @@ impl Layout {
     }
 }
 
-/// How many of the columns have a one in the check row. There are at most 254
-/// of them, so a byte holds the count.
-pub(crate) fn ones_in_row(columns: &[u8], row: usize) -> usize {
-    let ones: u8 = columns.iter().map(|column| column >> row & 1).sum();
+/// How many columns have a one in the check. There are at most 254 of them, so
+/// a byte holds the count.
+pub(crate) fn ones_in_check(matrix: &[u8], check: usize) -> usize {
+    let ones: u8 = matrix.iter().map(|column| column >> check & 1).sum();
     usize::from(ones)
 }
 
-/// How many ones the columns have in the check rows before the given one.
-pub(crate) fn ones_before_row(columns: &[u8], row: usize) -> usize {
-    let earlier = (1u8 << row) - 1;
-    let ones: u16 = columns
+/// How many ones the columns have in the checks before the given one.
+pub(crate) fn ones_before_check(matrix: &[u8], check: usize) -> usize {
+    let earlier = (1u8 << check) - 1;
+    let ones: u16 = matrix
         .iter()
         .map(|column| (column & earlier).count_ones() as u16)
         .sum();

@@ -1,5 +1,7 @@
 //! The shape of an array, and the questions that concern it alone.
 
+use std::fmt::{self, Display};
+
 use crate::matrix;
 
 /// Why a call or a job was refused. The number is that of the question which
@@ -44,6 +46,12 @@ impl Refusal {
     }
 }
 
+impl From<Refusal> for u8 {
+    fn from(refusal: Refusal) -> u8 {
+        refusal.number()
+    }
+}
+
 /// The five numbers that fix an array. Any values may stand here; the
 /// questions of [`Shape::layout`] tell the good ones from the rest.
 #[derive(Clone, Copy, Debug, PartialEq, Eq, Hash)]
@@ -81,6 +89,23 @@ impl Shape {
     /// The largest number of rows.
     pub const MAX_ROWS: usize = 4096;
 
+    /// The shape with ρ, b, τ, k and m, in this order.
+    pub const fn new(
+        radix: usize,
+        digits: usize,
+        errors: usize,
+        width: usize,
+        rows: usize,
+    ) -> Shape {
+        Shape {
+            radix,
+            digits,
+            errors,
+            width,
+            rows,
+        }
+    }
+
     /// Asks questions 1 to 5.
     pub fn layout(self) -> Result<Layout, Refusal> {
         if !(Self::MIN_RADIX..=Self::MAX_RADIX).contains(&self.radix) {
@@ -100,6 +125,22 @@ impl Shape {
             checks,
             rules: matrix::rule_columns(self.errors, checks, self.width),
         })
+    }
+}
+
+impl Display for Shape {
+    fn fmt(&self, f: &mut fmt::Formatter) -> fmt::Result {
+        let Shape {
+            radix,
+            digits,
+            errors,
+            width,
+            rows,
+        } = self;
+        write!(
+            f,
+            "radix {radix} digits {digits} errors {errors} width {width} rows {rows}"
+        )
     }
 }
 
@@ -166,7 +207,7 @@ impl Layout {
         self.shape.rows * self.columns()
     }
 
-    /// The rule columns of the check matrix, in order.
+    /// The rule columns of the parity-check matrix, in order.
     pub fn rules(&self) -> &'static [u8] {
         self.rules
     }

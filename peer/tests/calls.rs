@@ -1,122 +1,158 @@
 //! The calls with arbitrary arguments against the definitions: answer, record
 //! and every lent byte.
 
-mod naive;
-mod named;
+use peer::testing::draw::{self, some_bytes, some_length, some_number, Draw};
+use peer::testing::lent::Own;
+use peer::testing::naive::calls::make;
+use peer::testing::naive::spec::{questions, record, Spec};
+use peer::testing::random::Random;
+use peer::testing::records::forged;
+use peer::testing::settings;
+use peer::testing::shapes::{any_shape, small_shape};
+use peer::testing::tally::Tally;
+use peer::{match_byte, Answer, Array, Cycle, Name, Shape, State};
 
-use naive::Lent;
-use named::{Answer, Arguments, Name, Parts, Tally, NAMES};
-use peer::random::{any_shape, forged, some_length, some_number, Random};
-use peer::{match_byte, Cycle, Shape};
-
-/// Makes a call of the library.
-fn ours(name: Name, shape: Shape, lent: &mut Lent, given: &Arguments) -> Answer {
-    let parts = Parts {
-        cells: &mut lent.cells,
-        counters: &mut lent.counters,
-        flags: &mut lent.flags,
-        matches: &mut lent.matches,
-        out: &mut lent.out,
-        line: &mut lent.line,
-    };
-    named::ours(name, shape, &mut lent.cycle, parts, given)
+/// The sizes that arguments are drawn for.
+struct Sizes {
+    cells: usize,
+    rows: usize,
+    width: usize,
+    columns: usize,
+    levels: usize,
 }
 
-/// Makes a call by the definitions.
-fn plain(name: Name, shape: Shape, lent: &mut Lent, given: &Arguments) -> Answer {
-    match name {
-        Name::Clear => Answer::done(naive::clear(shape, lent)),
-        Name::Program => Answer::done(naive::program(shape, lent, given.row, &given.levels)),
-        Name::Drift => Answer::done(naive::drift(
-            shape,
-            lent,
-            given.row,
-            given.column,
-            given.level,
-        )),
-        Name::Lookup => Answer::of(naive::lookup(shape, lent, &given.levels), Answer::Count),
-        Name::Start => Answer::done(naive::start(shape, lent)),
-        Name::Step => Answer::done(naive::step(shape, lent)),
-        Name::Run => Answer::done(naive::run(shape, lent)),
-        Name::FirstMatch => Answer::of(naive::first_match(shape, lent, &given.levels), Answer::Row),
-        Name::Sound => Answer::of(naive::sound(shape, lent, given.row), Answer::Sound),
-        Name::Read => Answer::done(naive::read(shape, lent, given.row)),
-        Name::Encode => Answer::done(naive::encode_row(shape, lent)),
+impl Sizes {
+    /// Those of a good shape; for a bad one all is of small size.
+    fn new(spec: Option<&Spec>) -> Sizes {
+        match spec {
+            Some(spec) => Sizes {
+                cells: spec.cells(),
+                rows: spec.shape.rows,
+                width: spec.shape.width,
+                columns: spec.columns(),
+                levels: spec.levels,
+            },
+            None => Sizes {
+                cells: 12,
+                rows: 3,
+                width: 3,
+                columns: 4,
+                levels: 8,
+            },
+        }
     }
 }
 
-/// Buffers for a shape, each mostly of its length, and arguments mostly in
-/// range. For a bad shape all is of small size.
-fn drawn(random: &mut Random, shape: Shape) -> (Lent, Arguments) {
-    let spec = naive::questions(shape).ok();
-    let (cells, rows, width, columns, levels) = match &spec {
-        Some(spec) => (
-            spec.cells(),
-            shape.rows,
-            shape.width,
-            spec.columns(),
-            spec.levels,
-        ),
-        None => (12, 3, 3, 4, 8),
-    };
-    let cell_bytes = match &spec {
+/// What any call may be given, drawn beforehand.
+struct Given {
+    /// One buffer for each [`Own`].
+    own: [Vec<u8>; 3],
+    row: usize,
+    column: usize,
+    level: u8,
+    levels: Vec<u8>,
+}
+
+impl Draw for Given {
+    type Buffer = Vec<u8>;
+
+    fn rule(&mut self) -> (usize, Vec<u8>) {
+        (self.row, self.levels.clone())
+    }
+
+    fn row(&mut self) -> usize {
+        self.row
+    }
+
+    fn column(&mut self) -> usize {
+        self.column
+    }
+
+    fn level(&mut self) -> u8 {
+        self.level
+    }
+
+    fn inputs(&mut self) -> Vec<u8> {
+        self.levels.clone()
+    }
+
+    fn buffer(&mut self, own: Own) -> Vec<u8> {
+        self.own[own as usize].clone()
+    }
+}
+
+/// An array with buffers mostly of their lengths, and arguments mostly in
+/// range.
+fn drawn(random: &mut Random, shape: Shape) -> (Array, Given) {
+    let spec = questions(shape).ok();
+    let sizes = Sizes::new(spec.as_ref());
+    let cells = match &spec {
         Some(spec) if random.one_in(2) => some_rows(random, spec),
-        _ => {
-            let length = some_length(random, cells);
-            let bound = if random.one_in(2) { levels } else { 256 };
-            random.levels(bound, length)
-        }
+        _ => some_cells(random, &sizes),
     };
     let cycle = match &spec {
         Some(spec) => some_record(random, spec),
         None => forged(random, Cycle::IDLE),
     };
-    let buffer = |random: &mut Random, wanted| {
-        let length = some_length(random, wanted);
-        random.bytes(length)
+    let state = State {
+        cells,
+        counters: some_bytes(random, sizes.rows),
+        flags: some_bytes(random, sizes.rows),
     };
-    let lent = Lent {
-        cells: cell_bytes,
-        counters: buffer(random, rows),
-        flags: buffer(random, rows),
-        matches: buffer(random, rows),
-        out: buffer(random, width),
-        line: some_line(random, width, columns, levels),
+    let array = Array {
+        shape,
+        state,
         cycle,
     };
-    let length = some_length(random, width);
+    (array, given(random, &sizes))
+}
+
+fn given(random: &mut Random, sizes: &Sizes) -> Given {
+    let own = [
+        some_bytes(random, sizes.rows),
+        some_bytes(random, sizes.width),
+        some_codeword(random, sizes),
+    ];
+    let length = some_length(random, sizes.width);
     let bound = match random.below(10) {
         0 => 256,
-        1..=3 => levels,
-        _ => levels.min(3),
+        1..=3 => sizes.levels,
+        _ => sizes.levels.min(3),
     };
-    let given = Arguments {
-        row: some_number(random, rows),
-        column: some_number(random, columns),
+    Given {
+        own,
+        row: some_number(random, sizes.rows),
+        column: some_number(random, sizes.columns),
         level: if random.one_in(5) {
             random.byte()
         } else {
-            random.level(levels)
+            random.level(sizes.levels)
         },
         levels: random.levels(bound, length),
-    };
-    (lent, given)
+    }
+}
+
+/// Mostly as many cells as there are, levels or any bytes.
+fn some_cells(random: &mut Random, sizes: &Sizes) -> Vec<u8> {
+    let length = some_length(random, sizes.cells);
+    let bound = if random.one_in(2) { sizes.levels } else { 256 };
+    random.levels(bound, length)
 }
 
 /// Mostly n bytes for the encoder, of which the first k are mostly levels.
-fn some_line(random: &mut Random, width: usize, columns: usize, levels: usize) -> Vec<u8> {
-    let mut line = random.levels(levels, width);
+fn some_codeword(random: &mut Random, sizes: &Sizes) -> Vec<u8> {
+    let mut codeword = random.levels(sizes.levels, sizes.width);
     if random.one_in(4) {
-        let place = random.below(width);
-        line[place] = random.byte();
+        let place = random.below(sizes.width);
+        codeword[place] = random.byte();
     }
-    line.extend(random.bytes(columns));
-    line.truncate(some_length(random, columns));
-    line
+    codeword.extend(random.bytes(sizes.columns));
+    codeword.truncate(some_length(random, sizes.columns));
+    codeword
 }
 
 /// Sound rows, a few of them with a cell changed.
-fn some_rows(random: &mut Random, spec: &naive::Spec) -> Vec<u8> {
+fn some_rows(random: &mut Random, spec: &Spec) -> Vec<u8> {
     let rows: Vec<Vec<u8>> = (0..3)
         .map(|_| spec.encoded(&random.levels(spec.levels, spec.shape.width)))
         .collect();
@@ -133,12 +169,12 @@ fn some_rows(random: &mut Random, spec: &naive::Spec) -> Vec<u8> {
 
 /// Mostly a record of the schedule, else a forged one. Long schedules are not
 /// written out; their first record serves.
-fn some_record(random: &mut Random, spec: &naive::Spec) -> Cycle {
+fn some_record(random: &mut Random, spec: &Spec) -> Cycle {
     let cycle = if spec.lookups() > 2000 {
         Cycle::open(&spec.shape.layout().unwrap())
     } else {
         let schedule = spec.schedule();
-        naive::record(&schedule, random.below(schedule.len() + 1))
+        record(&schedule, random.below(schedule.len() + 1))
     };
     if random.one_in(3) {
         forged(random, cycle)
@@ -147,38 +183,49 @@ fn some_record(random: &mut Random, spec: &naive::Spec) -> Cycle {
     }
 }
 
+/// Makes a call by this build and by the definitions, and compares.
+fn compare(random: &mut Random, shape: Shape, name: Name) -> Answer {
+    let (mut ours, mut given) = drawn(random, shape);
+    let mut call = draw::call(name, &mut given);
+    let before = (ours.clone(), call.clone());
+    let (mut plain, mut plain_call) = before.clone();
+    let answer = ours.make(&mut call);
+    assert_eq!(
+        answer,
+        make(&mut plain, &mut plain_call),
+        "{name:?} {shape:?}"
+    );
+    assert_eq!((&ours, &call), (&plain, &plain_call), "{name:?} {shape:?}");
+    if let Answer::Refused(_) = answer {
+        assert_eq!((ours, call), before, "{name:?} {shape:?}");
+    }
+    answer
+}
+
 #[test]
 fn the_calls_do_what_the_definitions_say() {
-    let mut random = Random::new(11);
+    let mut random = settings::random(11);
     let mut tally = Tally::default();
     for turn in 0..2500 {
         let mut shape = any_shape(&mut random);
         if turn % 10 != 0 && shape.layout().is_ok() {
             shape.rows = shape.rows.min(9);
         }
-        for name in NAMES {
+        for &name in Name::ALL {
             if name == Name::Run && is_long(shape) {
                 continue;
             }
-            let (mut lent, given) = drawn(&mut random, shape);
-            let before = lent.clone();
-            let mut expected = lent.clone();
-            let answer = ours(name, shape, &mut lent, &given);
-            let wanted = plain(name, shape, &mut expected, &given);
-            assert_eq!(answer, wanted, "{name:?} {shape:?}");
-            assert_eq!(lent, expected, "{name:?} {shape:?}");
-            if let Answer::Refused(_) = answer {
-                assert_eq!(lent, before, "{name:?} {shape:?}");
-            }
-            tally.add(name, &answer);
+            let answer = compare(&mut random, shape, name);
+            tally.add(name, answer);
         }
     }
+    println!("{} calls: {tally:?}", tally.calls());
     tally.assert_complete();
 }
 
 /// Whether a cycle on the shape looks at too many rows to be run here.
 fn is_long(shape: Shape) -> bool {
-    naive::questions(shape).is_ok_and(|spec| spec.lookups() * shape.rows > 5_000)
+    questions(shape).is_ok_and(|spec| spec.lookups() * shape.rows > 5_000)
 }
 
 /// The rule of a match line on all pairs of a cell and an input.
@@ -197,10 +244,10 @@ fn a_cell_answers_when_the_input_is_at_most_the_cell() {
 /// First match and task lookup agree, and both ways out are seen.
 #[test]
 fn first_match_is_the_first_one_of_the_match_bytes() {
-    let mut random = Random::new(12);
+    let mut random = settings::random(12);
     let (mut some, mut none) = (0, 0);
     for _ in 0..5000 {
-        let shape = peer::random::small_shape(&mut random);
+        let shape = small_shape(&mut random);
         let layout = shape.layout().unwrap();
         let cells = random.levels(layout.levels(), layout.cells());
         let inputs = random.levels(layout.levels().min(3), shape.width);

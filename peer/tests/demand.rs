@@ -2,12 +2,11 @@
 //! log is fed the shape and the calls with their arguments, and none of the
 //! library's answers.
 
-mod naive;
-
-use naive::Spec;
-use peer::list::{Array, Call};
-use peer::random::{list, short_cycle_shape, Random};
-use peer::{Phase, Shape};
+use peer::testing::lists::list;
+use peer::testing::naive::spec::{questions, Spec};
+use peer::testing::settings;
+use peer::testing::shapes::short_cycle_shape;
+use peer::{Answer, Array, Call, Phase, Shape};
 
 #[derive(Clone, Copy, Debug, PartialEq, Eq)]
 enum LoggedCycle {
@@ -30,7 +29,7 @@ struct Log {
 
 impl Log {
     fn new(shape: Shape) -> Log {
-        let spec = naive::questions(shape).expect("a good shape");
+        let spec = questions(shape).expect("a good shape");
         let zeros = vec![vec![0; spec.columns()]; shape.rows];
         Log {
             spec,
@@ -49,7 +48,7 @@ impl Log {
             .all(|&level| usize::from(level) < self.spec.levels)
     }
 
-    fn feed(&mut self, call: &Call) {
+    fn feed(&mut self, call: &Call<Vec<u8>>) {
         self.just_ended = false;
         match call {
             Call::Clear => *self = Log::new(self.spec.shape),
@@ -62,6 +61,11 @@ impl Log {
                 self.mark = false;
             }
             Call::Step { matches } => self.step(matches.len()),
+            Call::Run { .. }
+            | Call::FirstMatch { .. }
+            | Call::Sound { .. }
+            | Call::Read { .. }
+            | Call::Encode { .. } => panic!("{:?} is no call of these lists", call.name()),
         }
     }
 
@@ -119,7 +123,7 @@ struct Seen {
 
 /// The claim after a list.
 fn check(log: &Log, array: &Array, seen: &mut Seen) {
-    assert_eq!(array.cells, log.standing.concat());
+    assert_eq!(array.state.cells, log.standing.concat());
     let phase = match log.cycle {
         LoggedCycle::None => Phase::Idle,
         LoggedCycle::Open => Phase::Open,
@@ -147,43 +151,44 @@ fn check_verdict(log: &Log, array: &Array, seen: &mut Seen) {
     for row in 0..log.spec.shape.rows {
         let differing = log.differing(row);
         if differing == 0 {
-            assert_eq!(array.flags[row], 0);
+            assert_eq!(array.state.flags[row], 0);
             seen.clean_rows += 1;
         } else if differing <= log.spec.shape.errors {
-            assert_eq!(array.flags[row], 1);
+            assert_eq!(array.state.flags[row], 1);
             seen.changed_rows[differing] += 1;
         } else {
             seen.rows_beyond += 1;
-            seen.missed_beyond += usize::from(array.flags[row] == 0);
+            seen.missed_beyond += usize::from(array.state.flags[row] == 0);
         }
     }
 }
 
 /// Runs a list from the fresh array. Each beginning of a list is a list, so
 /// the claim is checked after every call.
-fn run(shape: Shape, calls: Vec<Call>, seen: &mut Seen) {
+fn run(shape: Shape, calls: Vec<Call<Vec<u8>>>, seen: &mut Seen) {
     let mut log = Log::new(shape);
     let mut array = Array::fresh(shape).expect("a good shape");
     check(&log, &array, seen);
     for mut call in calls {
         log.feed(&call);
-        let reply = array.apply(&mut call);
-        seen.refused += usize::from(reply.number != 0);
+        let answer = array.make(&mut call);
+        seen.refused += usize::from(answer.number() != 0);
         check(&log, &array, seen);
     }
 }
 
 #[test]
 fn demand_3_holds_on_random_lists() {
-    let mut random = Random::new(13);
+    let mut random = settings::random(13);
+    let lists = settings::lists(20_000);
     let mut seen = Seen::default();
-    for _ in 0..20_000 {
+    for _ in 0..lists {
         let shape = short_cycle_shape(&mut random, 120);
         let pieces = random.below(14);
         let calls = list(&mut random, shape, pieces);
         run(shape, calls, &mut seen);
     }
-    println!("{seen:?}");
+    println!("{lists} lists: {seen:?}");
     assert!(seen.verdicts > 5000);
     assert!(seen.clean_rows > 5000);
     assert!(seen.changed_rows[1..].iter().all(|&rows| rows > 100));
@@ -206,14 +211,8 @@ fn every_change_of_few_cells_is_flagged() {
         (2, 1, 3, 4),
         (3, 1, 3, 1),
     ] {
-        let shape = Shape {
-            radix,
-            digits,
-            errors,
-            width,
-            rows: 1,
-        };
-        let spec = naive::questions(shape).unwrap();
+        let shape = Shape::new(radix, digits, errors, width, 1);
+        let spec = questions(shape).unwrap();
         let levels: Vec<u8> = (0..width).map(|c| (c * 5 % spec.levels) as u8).collect();
         let written = spec.encoded(&levels);
         for number in 0..spec.levels.pow(spec.columns() as u32) {
@@ -233,11 +232,10 @@ fn every_change_of_few_cells_is_flagged() {
 /// The flag of the only row after one cycle.
 fn flag_after_cycle(shape: Shape, cells: &[u8]) -> u8 {
     let mut array = Array::fresh(shape).unwrap();
-    array.cells.copy_from_slice(cells);
-    assert_eq!(array.apply(&mut Call::Start).number, 0);
+    array.state.cells.copy_from_slice(cells);
+    assert_eq!(array.start(), Answer::Done);
     while array.cycle.phase == Phase::Open {
-        let reply = array.apply(&mut Call::Step { matches: vec![0] });
-        assert_eq!(reply.number, 0);
+        assert_eq!(array.step(&mut [0]), Answer::Done);
     }
-    array.flags[0]
+    array.state.flags[0]
 }

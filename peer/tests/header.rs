@@ -25,5 +25,9 @@ fn a_program_in_c_makes_the_calls_by_the_header() {
         .unwrap_or_else(|error| panic!("{compiler} does not run: {error}"));
     assert!(built.success(), "{PROGRAM} does not compile and link");
     let ran = Command::new(&program).status().expect("runs");
-    assert_eq!(ran.code(), Some(0), "the line of {PROGRAM}, modulo 255, plus 1");
+    assert_eq!(
+        ran.code(),
+        Some(0),
+        "the line of {PROGRAM}, modulo 255, plus 1"
+    );
 }

@@ -1,19 +1,13 @@
 //! The marked rows and shapes, the paper's table, and the tables of the matrix.
 
-mod naive;
-
 use peer::matrix::{LARGEST_WIDTH, ORDER};
-use peer::random::{any_good_shape, Random};
+use peer::testing::naive::spec::questions;
+use peer::testing::settings;
+use peer::testing::shapes::any_good_shape;
 use peer::{encode, is_codeword, Layout, Refusal, Shape};
 
 fn shape(radix: usize, digits: usize, errors: usize, width: usize) -> Shape {
-    Shape {
-        radix,
-        digits,
-        errors,
-        width,
-        rows: 1,
-    }
+    Shape::new(radix, digits, errors, width, 1)
 }
 
 fn layout(radix: usize, digits: usize, errors: usize, width: usize) -> Layout {
@@ -126,14 +120,15 @@ fn the_matrix_is_that_of_the_definition() {
         for width in 1..=most {
             let shape = shape(2, 1, errors, width);
             let layout = shape.layout().unwrap();
-            let spec = naive::questions(shape).unwrap();
+            let spec = questions(shape).unwrap();
             assert_eq!(layout.checks(), spec.checks);
             assert!(layout.matrix().map(usize::from).eq(spec.matrix.clone()));
-            for row in 0..spec.checks {
-                assert!(layout.support(row).eq(spec.support(row)));
-                assert_eq!(layout.support_size(row), spec.support(row).len());
-                let before: usize = (0..row).map(|row| spec.support(row).len()).sum();
-                assert_eq!(layout.weight_before(row), before);
+            for check in 0..spec.checks {
+                let support = spec.support(check);
+                assert_eq!(layout.support_size(check), support.len());
+                assert!(layout.support(check).eq(support));
+                let before: usize = (0..check).map(|check| spec.support(check).len()).sum();
+                assert_eq!(layout.weight_before(check), before);
             }
             assert_eq!(layout.weight(), spec.weight());
         }
@@ -146,12 +141,12 @@ fn the_matrix_is_that_of_the_definition() {
 /// sound ones, and sound ones with a few cells changed.
 #[test]
 fn the_code_is_that_of_the_definition() {
-    let mut random = Random::new(1);
+    let mut random = settings::random(1);
     let (mut yes, mut no) = (0, 0);
     for _ in 0..3000 {
         let shape = any_good_shape(&mut random);
         let layout = shape.layout().unwrap();
-        let spec = naive::questions(shape).unwrap();
+        let spec = questions(shape).unwrap();
         let levels = random.levels(spec.levels, shape.width);
         let mut row = spec.encoded(&levels);
         assert_eq!(checks_of(&layout, &levels), row[shape.width..]);

@@ -1,17 +1,11 @@
 //! Questions 1 to 5.
 
-mod naive;
-
-use peer::random::{any_shape, bad_shape, Random};
+use peer::testing::naive::spec::questions;
+use peer::testing::settings;
+use peer::testing::shapes::{any_shape, bad_shape};
 use peer::Shape;
 
-const GOOD: Shape = Shape {
-    radix: 2,
-    digits: 3,
-    errors: 1,
-    width: 3,
-    rows: 2,
-};
+const GOOD: Shape = Shape::new(2, 3, 1, 3, 2);
 
 /// The number of the refusal, or 0.
 fn number(shape: Shape) -> u8 {
@@ -20,50 +14,35 @@ fn number(shape: Shape) -> u8 {
         .map_or_else(|refusal| refusal.number(), |_| 0)
 }
 
+/// What a shape gets for values of one of its numbers.
+fn expect(values: &[(usize, u8)], shape: impl Fn(usize) -> Shape) {
+    for &(value, wanted) in values {
+        assert_eq!(number(shape(value)), wanted, "{}", shape(value));
+    }
+}
+
 #[test]
 fn each_question_at_its_edges() {
     let max = usize::MAX;
-    for (radix, wanted) in [
-        (0, 1),
-        (1, 1),
-        (2, 0),
-        (6, 0),
-        (7, 2),
-        (255, 2),
-        (256, 1),
-        (max, 1),
-    ] {
-        assert_eq!(number(Shape { radix, ..GOOD }), wanted);
-    }
-    for (digits, wanted) in [
-        (0, 2),
-        (1, 0),
-        (8, 0),
-        (9, 2),
-        (64, 2),
-        (1 << 32, 2),
-        (max, 2),
-    ] {
-        assert_eq!(number(Shape { digits, ..GOOD }), wanted);
-    }
-    for (errors, wanted) in [(0, 3), (1, 0), (2, 0), (3, 0), (4, 3), (max, 3)] {
-        assert_eq!(number(Shape { errors, ..GOOD }), wanted);
-    }
+    let radix = |radix| Shape { radix, ..GOOD };
+    expect(&[(0, 1), (1, 1), (2, 0), (6, 0), (7, 2)], radix);
+    expect(&[(255, 2), (256, 1), (max, 1)], radix);
+    let digits = |digits| Shape { digits, ..GOOD };
+    expect(&[(0, 2), (1, 0), (8, 0), (9, 2), (64, 2)], digits);
+    expect(&[(1 << 32, 2), (max, 2)], digits);
+    let errors = |errors| Shape { errors, ..GOOD };
+    expect(&[(0, 3), (1, 0), (2, 0), (3, 0), (4, 3), (max, 3)], errors);
     for (errors, most) in [(1, 254), (2, 247), (3, 120)] {
-        for (width, wanted) in [(0, 4), (1, 0), (most, 0), (most + 1, 4), (256, 4), (max, 4)] {
-            assert_eq!(
-                number(Shape {
-                    errors,
-                    width,
-                    ..GOOD
-                }),
-                wanted
-            );
-        }
+        let width = |width| Shape {
+            errors,
+            width,
+            ..GOOD
+        };
+        expect(&[(0, 4), (1, 0), (most, 0)], width);
+        expect(&[(most + 1, 4), (256, 4), (max, 4)], width);
     }
-    for (rows, wanted) in [(0, 5), (1, 0), (4096, 0), (4097, 5), (max, 5)] {
-        assert_eq!(number(Shape { rows, ..GOOD }), wanted);
-    }
+    let rows = |rows| Shape { rows, ..GOOD };
+    expect(&[(0, 5), (1, 0), (4096, 0), (4097, 5), (max, 5)], rows);
 }
 
 /// Every radix with the digits around its limit.
@@ -95,13 +74,8 @@ fn levels_up_to_256_and_no_more() {
 /// The first no counts.
 #[test]
 fn the_questions_come_in_order() {
-    let mut shape = Shape {
-        radix: usize::MAX,
-        digits: usize::MAX,
-        errors: usize::MAX,
-        width: usize::MAX,
-        rows: usize::MAX,
-    };
+    let max = usize::MAX;
+    let mut shape = Shape::new(max, max, max, max, max);
     assert_eq!(number(shape), 1);
     shape.radix = 2;
     assert_eq!(number(shape), 2);
@@ -117,11 +91,11 @@ fn the_questions_come_in_order() {
 
 #[test]
 fn random_shapes_agree_with_the_definition() {
-    let mut random = Random::new(2);
+    let mut random = settings::random(2);
     let mut seen = [0; 6];
     for _ in 0..20_000 {
         let shape = any_shape(&mut random);
-        match (naive::questions(shape), shape.layout()) {
+        match (questions(shape), shape.layout()) {
             (Ok(spec), Ok(layout)) => {
                 assert_eq!(layout.shape(), shape);
                 assert_eq!(layout.levels(), spec.levels);

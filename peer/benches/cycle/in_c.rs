@@ -1,8 +1,7 @@
 //! The loops in C, where they were compiled.
 
-use peer::{Layout, Shape};
-
-use crate::proved_calls::Words;
+use peer::testing::records::Words;
+use peer::{Layout, Shape, State};
 
 /// Whether they were.
 pub const THERE: bool = cfg!(in_c);
@@ -47,9 +46,10 @@ impl Array {
     }
 
     /// Whether the buffers have the lengths that the loops trust in.
-    fn fits(&self, cells: &[u8], others: [&[u8]; 3]) -> bool {
-        cells.len() == self.rows * self.columns
-            && others.iter().all(|other| other.len() == self.rows)
+    fn fits(&self, state: &State<&mut [u8]>) -> bool {
+        state.cells.len() == self.rows * self.columns
+            && state.counters.len() == self.rows
+            && state.flags.len() == self.rows
     }
 }
 
@@ -83,28 +83,29 @@ linked! {
     fn loops_encode(array: *const Array, row: *mut u8);
 }
 
-pub fn start(array: &Array, words: &mut Words, counters: &mut [u8], flags: &mut [u8]) {
-    assert!(counters.len() == array.rows && flags.len() == array.rows);
-    unsafe { loops_start(array, words, counters.as_mut_ptr(), flags.as_mut_ptr()) }
+pub fn start(array: &Array, words: &mut Words, state: State<&mut [u8]>) {
+    assert!(array.fits(&state));
+    let (counters, flags) = (state.counters.as_mut_ptr(), state.flags.as_mut_ptr());
+    unsafe { loops_start(array, words, counters, flags) }
 }
 
 /// Makes so many steps.
 pub fn steps(
     array: &Array,
     words: &mut Words,
-    cells: &[u8],
-    [counters, flags, matches]: [&mut [u8]; 3],
+    state: State<&mut [u8]>,
+    matches: &mut [u8],
     steps: usize,
 ) {
-    assert!(array.fits(cells, [counters, flags, matches]));
+    assert!(array.fits(&state) && matches.len() == array.rows);
     for _ in 0..steps {
         let number = unsafe {
             loops_step(
                 array,
                 words,
-                cells.as_ptr(),
-                counters.as_mut_ptr(),
-                flags.as_mut_ptr(),
+                state.cells.as_ptr(),
+                state.counters.as_mut_ptr(),
+                state.flags.as_mut_ptr(),
                 matches.as_mut_ptr(),
             )
         };

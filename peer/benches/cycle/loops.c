@@ -4,7 +4,7 @@
 // up, and would trust its own buffers. So these leave out:
 // - questions 1 to 6, and question 8 of the encoder;
 // - of question 9, whether the count is that of the place; a step asks that the
-//   cycle is open and that check row, digit, column and factor are ones of the
+//   cycle is open and that check, digit, column and factor are ones of the
 //   schedule;
 // - the remainder of a counter that somebody else wrote.
 
@@ -18,17 +18,17 @@ struct array {
     size_t radix, digits, width, rows;
     size_t checks, columns;
     size_t powers[9];     // of the radix, up to the number of levels
-    uint8_t matrix[255];  // the columns of the check matrix
+    uint8_t matrix[255];  // the columns of the parity-check matrix
 };
 
 struct record {
-    size_t phase, row, digit, column, factor, count;
+    size_t phase, check, digit, column, factor, count;
 };
 
-// The first column from the given one on with a one in the check row.
-static size_t next_held(const struct array *array, size_t row, size_t column)
+// The first column from the given one on with a one in the check.
+static size_t next_held(const struct array *array, size_t check, size_t column)
 {
-    while (!(array->matrix[column] >> row & 1))
+    while (!(array->matrix[column] >> check & 1))
         column++;
     return column;
 }
@@ -57,19 +57,19 @@ static void advance(const struct array *array, struct record *record,
     }
     record->factor = 1;
     if (!ends_digit) {
-        record->column = next_held(array, record->row, record->column + 1);
+        record->column = next_held(array, record->check, record->column + 1);
         return;
     }
     if (record->digit > 0) {
         record->digit--;
-    } else if (record->row + 1 < array->checks) {
-        record->row++;
+    } else if (record->check + 1 < array->checks) {
+        record->check++;
         record->digit = array->digits - 1;
     } else {
         *record = (struct record){COMPLETE, 0, 0, 0, 0, record->count};
         return;
     }
-    record->column = next_held(array, record->row, 0);
+    record->column = next_held(array, record->check, 0);
 }
 
 uint8_t loops_step(const struct array *array, struct record *record,
@@ -77,9 +77,9 @@ uint8_t loops_step(const struct array *array, struct record *record,
                    uint8_t *restrict flags, uint8_t *restrict matches)
 {
     size_t column = record->column;
-    if (record->phase != OPEN || record->row >= array->checks ||
+    if (record->phase != OPEN || record->check >= array->checks ||
         record->digit >= array->digits || column >= array->columns ||
-        !(array->matrix[column] >> record->row & 1))
+        !(array->matrix[column] >> record->check & 1))
         return 9;
     size_t span = array->powers[array->digits - record->digit];
     if (record->factor >= span || record->factor % array->radix == 0)
@@ -97,7 +97,7 @@ uint8_t loops_step(const struct array *array, struct record *record,
     }
 
     int ends_digit =
-        column == array->width + record->row && record->factor + 1 == span;
+        column == array->width + record->check && record->factor + 1 == span;
     if (ends_digit) {
         for (size_t i = 0; i < rows; i++)
             flags[i] = counters[i] ? 1 : flags[i];

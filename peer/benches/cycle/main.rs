@@ -11,9 +11,9 @@ mod proved_calls;
 
 use std::time::{Duration, Instant};
 
-use peer::random::Random;
-use peer::{Cycle, Shape};
-use proved_calls::{words_of, Words};
+use peer::testing::random::Random;
+use peer::testing::records::{cycle_of, words_of, Words};
+use peer::{Cycle, Phase, Shape, State};
 
 /// The least time that is spent on each line of the table.
 const PATIENCE: Duration = Duration::from_secs(1);
@@ -35,20 +35,20 @@ const BUILDS: [Build; 3] = [Build::Proved, Build::Rust, Build::C];
 
 /// All that a run works on.
 #[derive(Clone, PartialEq, Eq)]
-struct State {
+struct Bench {
     words: Words,
-    cells: Vec<u8>,
-    counters: Vec<u8>,
-    flags: Vec<u8>,
+    state: State<Vec<u8>>,
     matches: Vec<u8>,
 }
 
-impl State {
-    fn copy_from(&mut self, other: &State) {
+impl Bench {
+    /// The same bytes at the same addresses as before.
+    fn copy_from(&mut self, other: &Bench) {
         self.words = other.words;
-        self.cells.copy_from_slice(&other.cells);
-        self.counters.copy_from_slice(&other.counters);
-        self.flags.copy_from_slice(&other.flags);
+        let buffers = self.state.each_mut().into_array().into_iter();
+        for (buffer, other) in buffers.zip(other.state.each().into_array()) {
+            buffer.copy_from_slice(other);
+        }
         self.matches.copy_from_slice(&other.matches);
     }
 }
@@ -65,29 +65,19 @@ enum Work {
 fn main() {
     heading();
     for errors in [1, 2, 3] {
-        let shape = shape(2, 3, errors, 50, 512);
+        let shape = Shape::new(2, 3, errors, 50, 512);
         line("cycle, Example 1", shape, whole(shape));
     }
-    let largest = shape(2, 8, 2, 247, 4096);
+    let largest = Shape::new(2, 8, 2, 247, 4096);
     line("first steps", largest, Work::Steps(2_000));
     line("encoder", largest, Work::Encode);
     for rows in [64, 512, 4096] {
-        let shape = shape(2, 3, 2, 50, rows);
+        let shape = Shape::new(2, 3, 2, 50, rows);
         line("cycle, more rows", shape, whole(shape));
     }
     for width in [50, 120, 247] {
-        let shape = shape(2, 3, 2, width, 512);
+        let shape = Shape::new(2, 3, 2, width, 512);
         line("1,000 steps, wider", shape, Work::Steps(1_000));
-    }
-}
-
-fn shape(radix: usize, digits: usize, errors: usize, width: usize, rows: usize) -> Shape {
-    Shape {
-        radix,
-        digits,
-        errors,
-        width,
-        rows,
     }
 }
 
@@ -122,14 +112,9 @@ fn line(title: &str, shape: Shape, work: Work) {
         Work::Steps(steps) => (steps, steps * shape.rows),
         Work::Encode => (shape.rows, shape.rows),
     };
-    let Shape {
-        radix,
-        digits,
-        errors,
-        width,
-        rows,
-    } = shape;
-    print!("{title:18} {radix:5} {digits:6} {errors:6} {width:5} {rows:4} {calls:5} |");
+    print!("{title:18} {:5} {:6}", shape.radix, shape.digits);
+    print!(" {:6} {:5} {:4}", shape.errors, shape.width, shape.rows);
+    print!(" {calls:5} |");
     for time in [proved, rust, c] {
         print!(" {}", cell(9, 1, time.map(micros)));
     }
@@ -173,8 +158,8 @@ fn times(shape: Shape, work: Work) -> [Option<Duration>; 3] {
         Work::Steps(_) => drifted(shape),
         Work::Encode => unencoded(shape),
     };
-    let mut state = begin.clone();
-    let mut end: Option<State> = None;
+    let mut bench = begin.clone();
+    let mut end: Option<Bench> = None;
     let mut least: [Vec<Duration>; 3] = Default::default();
     let clock = Instant::now();
     let mut runs = 0;
@@ -184,16 +169,16 @@ fn times(shape: Shape, work: Work) -> [Option<Duration>; 3] {
             if build == Build::C && !in_c::THERE {
                 continue;
             }
-            state.copy_from(&begin);
-            let pieces = run(build, shape, work, &mut state);
+            bench.copy_from(&begin);
+            let pieces = run(build, shape, work, &mut bench);
             if least.is_empty() {
                 least.clone_from(&pieces);
             }
             for (least, time) in least.iter_mut().zip(pieces) {
                 *least = time.min(*least);
             }
-            let end = end.get_or_insert_with(|| state.clone());
-            assert!(state == *end, "the builds leave different bytes");
+            let end = end.get_or_insert_with(|| bench.clone());
+            assert!(bench == *end, "the builds leave different bytes");
         }
     }
     if let (Some(end), Work::Steps(steps)) = (end, work) {
@@ -203,23 +188,25 @@ fn times(shape: Shape, work: Work) -> [Option<Duration>; 3] {
 }
 
 /// All steps were made; a whole cycle flags the rows that drifted.
-fn check_end(begin: &State, end: &State, steps: usize, shape: Shape) {
-    assert_eq!(end.words[5], steps);
+fn check_end(begin: &Bench, end: &Bench, steps: usize, shape: Shape) {
+    let cycle = cycle_of(&end.words);
+    assert_eq!(cycle.count, steps);
     if steps == shape.layout().expect("a good shape").lookups() {
-        let sound = |row| peer::sound(shape, &begin.cells, row).expect("a good row");
-        for (row, &flag) in end.flags.iter().enumerate() {
+        assert_eq!(cycle.phase, Phase::Complete);
+        let sound = |row| peer::sound(shape, &begin.state.cells, row).expect("a good row");
+        for (row, &flag) in end.state.flags.iter().enumerate() {
             assert_eq!(flag == 0, sound(row));
         }
     }
 }
 
 /// One run: the times of its pieces.
-fn run(build: Build, shape: Shape, work: Work, state: &mut State) -> Vec<Duration> {
+fn run(build: Build, shape: Shape, work: Work, bench: &mut Bench) -> Vec<Duration> {
     match (work, build) {
-        (Work::Steps(steps), Build::Proved) => proved_steps(shape, steps, state),
-        (Work::Steps(steps), Build::Rust) => rust_steps(shape, steps, state),
-        (Work::Steps(steps), Build::C) => c_steps(shape, steps, state),
-        (Work::Encode, _) => encode(build, shape, state),
+        (Work::Steps(steps), Build::Proved) => proved_steps(shape, steps, bench),
+        (Work::Steps(steps), Build::Rust) => rust_steps(shape, steps, bench),
+        (Work::Steps(steps), Build::C) => c_steps(shape, steps, bench),
+        (Work::Encode, _) => encode(build, shape, &mut bench.state.cells),
     }
 }
 
@@ -235,68 +222,58 @@ fn timed(all: usize, mut work: impl FnMut(usize)) -> Vec<Duration> {
         .collect()
 }
 
-fn proved_steps(shape: Shape, steps: usize, state: &mut State) -> Vec<Duration> {
-    let State {
+fn proved_steps(shape: Shape, steps: usize, bench: &mut Bench) -> Vec<Duration> {
+    let Bench {
         words,
-        cells,
-        counters,
-        flags,
+        state,
         matches,
-    } = state;
+    } = bench;
     let mut number = 0;
     let mut pieces = timed(1, |_| {
-        number |= proved_calls::start(words, shape, counters, flags)
+        number |= proved_calls::start(words, shape, state.lend())
     });
     pieces.extend(timed(steps, |steps| {
         for _ in 0..steps {
-            number |= proved_calls::step(words, shape, cells, counters, flags, matches);
+            number |= proved_calls::step(words, shape, state.lend(), matches);
         }
     }));
     assert_eq!(number, 0);
     pieces
 }
 
-fn rust_steps(shape: Shape, steps: usize, state: &mut State) -> Vec<Duration> {
-    let State {
-        words,
-        cells,
-        counters,
-        flags,
-        matches,
-    } = state;
+fn rust_steps(shape: Shape, steps: usize, bench: &mut Bench) -> Vec<Duration> {
+    let Bench { state, matches, .. } = bench;
     let mut now = (Cycle::IDLE, Ok(()));
-    let mut pieces = timed(1, |_| now = peer::start(shape, counters, flags, now.0));
+    let mut pieces = timed(1, |_| now = peer::start(shape, state.lend(), now.0));
     pieces.extend(timed(steps, |steps| {
         for _ in 0..steps {
-            let next = peer::step(shape, cells, counters, flags, matches, now.0);
+            let next = peer::step(shape, state.lend(), matches, now.0);
             now = (next.0, now.1.and(next.1));
         }
     }));
     assert_eq!(now.1, Ok(()));
-    *words = words_of(now.0);
+    bench.words = words_of(now.0);
     pieces
 }
 
-fn c_steps(shape: Shape, steps: usize, state: &mut State) -> Vec<Duration> {
-    let State {
+fn c_steps(shape: Shape, steps: usize, bench: &mut Bench) -> Vec<Duration> {
+    let Bench {
         words,
-        cells,
-        counters,
-        flags,
+        state,
         matches,
-    } = state;
+    } = bench;
     let array = in_c::Array::new(shape);
-    let mut pieces = timed(1, |_| in_c::start(&array, words, counters, flags));
+    let mut pieces = timed(1, |_| in_c::start(&array, words, state.lend()));
     pieces.extend(timed(steps, |steps| {
-        in_c::steps(&array, words, cells, [counters, flags, matches], steps);
+        in_c::steps(&array, words, state.lend(), matches, steps);
     }));
     pieces
 }
 
-fn encode(build: Build, shape: Shape, state: &mut State) -> Vec<Duration> {
+fn encode(build: Build, shape: Shape, cells: &mut [u8]) -> Vec<Duration> {
     let array = in_c::Array::new(shape);
     let columns = shape.layout().expect("a good shape").columns();
-    let mut rows = state.cells.chunks_exact_mut(columns);
+    let mut rows = cells.chunks_exact_mut(columns);
     timed(shape.rows, |count| {
         let rows = rows.by_ref().take(count);
         match build {
@@ -308,7 +285,7 @@ fn encode(build: Build, shape: Shape, state: &mut State) -> Vec<Duration> {
 }
 
 /// Rows of random levels, with any bytes in their check cells.
-fn unencoded(shape: Shape) -> State {
+fn unencoded(shape: Shape) -> Bench {
     let layout = shape.layout().expect("a good shape");
     let mut random = Random::new(15);
     let mut cells = Vec::new();
@@ -316,27 +293,29 @@ fn unencoded(shape: Shape) -> State {
         cells.extend(random.levels(layout.levels(), shape.width));
         cells.extend(random.bytes(layout.checks()));
     }
-    State {
-        words: [0; 6],
-        cells,
-        counters: vec![0; shape.rows],
-        flags: vec![0; shape.rows],
+    Bench {
+        words: words_of(Cycle::IDLE),
+        state: State {
+            cells,
+            ..State::fresh(&layout)
+        },
         matches: vec![0; shape.rows],
     }
 }
 
 /// Rows of random levels with their check cells; in every 16th one cell has
 /// drifted.
-fn drifted(shape: Shape) -> State {
+fn drifted(shape: Shape) -> Bench {
     let layout = shape.layout().expect("a good shape");
-    let mut state = unencoded(shape);
+    let mut bench = unencoded(shape);
     let mut random = Random::new(16);
-    for (number, row) in state.cells.chunks_exact_mut(layout.columns()).enumerate() {
+    let rows = bench.state.cells.chunks_exact_mut(layout.columns());
+    for (number, row) in rows.enumerate() {
         peer::encode(&layout, row);
         if number % 16 == 5 {
             let column = random.below(layout.columns());
             row[column] ^= 1;
         }
     }
-    state
+    bench
 }

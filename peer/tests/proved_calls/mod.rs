@@ -1,192 +1,93 @@
 //! The calls of the proved library, from the archive that `rt staticlib ffi`
 //! makes. A slice crosses as its address and its length.
 
+// the benchmark makes some of the calls, and each by itself
 #![allow(dead_code)]
 
-use peer::{Cycle, Phase, Shape};
+mod linked;
 
-/// What the calls say where there is no archive.
-const MISSING: &str = "target/staticlib/libffi.a is missing: run rt staticlib ffi";
+use std::cmp::Ordering;
 
-/// The record: phase (0 idle, 1 open, 2 complete), check row, digit, column,
-/// factor, count.
-pub type Words = [usize; 6];
+use linked::*;
+use peer::state::Bytes;
+use peer::testing::records::Words;
+use peer::{Answer, Call, Shape, State};
 
-/// The record as it crosses.
-pub fn words_of(cycle: Cycle) -> Words {
-    let phase = match cycle.phase {
-        Phase::Idle => 0,
-        Phase::Open => 1,
-        Phase::Complete => 2,
-    };
-    [
-        phase,
-        cycle.row,
-        cycle.digit,
-        cycle.column,
-        cycle.factor,
-        cycle.count,
-    ]
-}
-
-/// The shape as it crosses.
-#[repr(C)]
-#[derive(Clone, Copy)]
-struct Numbers {
-    radix: usize,
-    digits: usize,
-    errors: usize,
-    width: usize,
-    rows: usize,
-}
-
-impl From<Shape> for Numbers {
-    fn from(shape: Shape) -> Numbers {
-        Numbers {
-            radix: shape.radix,
-            digits: shape.digits,
-            errors: shape.errors,
-            width: shape.width,
-            rows: shape.rows,
+/// Makes a call of the proved library. No answer comes where a value is none
+/// that the call may give.
+pub fn make<S: Bytes, B: Bytes>(
+    shape: Shape,
+    state: &mut State<S>,
+    words: &mut Words,
+    call: &mut Call<B>,
+) -> Option<Answer> {
+    let cells = &mut state.cells;
+    let number = match call {
+        Call::Clear => clear(words, shape, state.lend()),
+        Call::Program { row, levels } => program(words, shape, cells, *row, levels),
+        Call::Start => start(words, shape, state.lend()),
+        Call::Step { matches } => step(words, shape, state.lend(), matches),
+        Call::Run { matches } => run(words, shape, state.lend(), matches),
+        Call::Drift { row, column, level } => drift(shape, cells, *row, *column, *level),
+        Call::Read { row, out } => read(shape, cells, *row, out),
+        Call::Encode { codeword } => encode(shape, codeword),
+        Call::Lookup { inputs, matches } => {
+            let (number, count) = lookup(shape, cells, inputs, matches);
+            return with_value(number, count, |count| Some(Answer::Count(count)));
         }
+        Call::FirstMatch { inputs } => {
+            let (number, found) = first_match(shape, cells, inputs);
+            return with_value(number, found, |found| row_or_none(shape, found));
+        }
+        Call::Sound { row } => {
+            let (number, holds) = sound(shape, cells, *row);
+            return with_value(number, holds.into(), yes_or_no);
+        }
+    };
+    with_value(number, 0, |_| Some(Answer::Done))
+}
+
+/// The answer of a call that also gives a value, 0 where it is refused.
+fn with_value(number: u8, value: usize, taken: impl Fn(usize) -> Option<Answer>) -> Option<Answer> {
+    match (number, value) {
+        (0, _) => taken(value),
+        (_, 0) => Some(Answer::Refused(number)),
+        _ => None,
     }
 }
 
-/// Declares the functions, or has each of them fail where they are not linked.
-macro_rules! linked {
-    ($(fn $name:ident($($argument:ident: $kind:ty),* $(,)?) -> u8;)*) => {
-        #[cfg(proved)]
-        #[link(name = "ffi", kind = "static")]
-        extern "C" {
-            $(fn $name($($argument: $kind),*) -> u8;)*
-        }
-
-        $(
-            #[cfg(not(proved))]
-            unsafe fn $name($(_: $kind),*) -> u8 {
-                panic!("{MISSING}")
-            }
-        )*
-    };
+/// A row, or m where there is none.
+fn row_or_none(shape: Shape, found: usize) -> Option<Answer> {
+    match found.cmp(&shape.rows) {
+        Ordering::Less => Some(Answer::Row(Some(found))),
+        Ordering::Equal => Some(Answer::Row(None)),
+        Ordering::Greater => None,
+    }
 }
 
-linked! {
-    fn jorivelune_clear(
-        words: *mut Words,
-        shape: Numbers,
-        cells: *mut u8,
-        cells_length: usize,
-        counters: *mut u8,
-        counters_length: usize,
-        flags: *mut u8,
-        flags_length: usize,
-    ) -> u8;
-    fn jorivelune_program(
-        words: *mut Words,
-        shape: Numbers,
-        cells: *mut u8,
-        cells_length: usize,
-        row: usize,
-        levels: *const u8,
-        levels_length: usize,
-    ) -> u8;
-    fn jorivelune_start(
-        words: *mut Words,
-        shape: Numbers,
-        counters: *mut u8,
-        counters_length: usize,
-        flags: *mut u8,
-        flags_length: usize,
-    ) -> u8;
-    fn jorivelune_step(
-        words: *mut Words,
-        shape: Numbers,
-        cells: *const u8,
-        cells_length: usize,
-        counters: *mut u8,
-        counters_length: usize,
-        flags: *mut u8,
-        flags_length: usize,
-        matches: *mut u8,
-        matches_length: usize,
-    ) -> u8;
-    fn jorivelune_run(
-        words: *mut Words,
-        shape: Numbers,
-        cells: *const u8,
-        cells_length: usize,
-        counters: *mut u8,
-        counters_length: usize,
-        flags: *mut u8,
-        flags_length: usize,
-        matches: *mut u8,
-        matches_length: usize,
-    ) -> u8;
-    fn jorivelune_drift(
-        shape: Numbers,
-        cells: *mut u8,
-        cells_length: usize,
-        row: usize,
-        column: usize,
-        level: u8,
-    ) -> u8;
-    fn jorivelune_read(
-        shape: Numbers,
-        cells: *const u8,
-        cells_length: usize,
-        row: usize,
-        out: *mut u8,
-        out_length: usize,
-    ) -> u8;
-    fn jorivelune_encode(shape: Numbers, row: *mut u8, row_length: usize) -> u8;
-    fn jorivelune_lookup(
-        shape: Numbers,
-        cells: *const u8,
-        cells_length: usize,
-        inputs: *const u8,
-        inputs_length: usize,
-        matches: *mut u8,
-        matches_length: usize,
-        count: *mut usize,
-    ) -> u8;
-    fn jorivelune_first_match(
-        shape: Numbers,
-        cells: *const u8,
-        cells_length: usize,
-        inputs: *const u8,
-        inputs_length: usize,
-        found: *mut usize,
-    ) -> u8;
-    fn jorivelune_sound(
-        shape: Numbers,
-        cells: *const u8,
-        cells_length: usize,
-        row: usize,
-        holds: *mut u8,
-    ) -> u8;
+/// 1 or 0.
+fn yes_or_no(holds: usize) -> Option<Answer> {
+    match holds {
+        0 | 1 => Some(Answer::Sound(holds == 1)),
+        _ => None,
+    }
 }
 
 // The safe calls. Each gives the number of the first question that fails, 0
 // where it is taken. The functions ask nothing of their caller but that the
 // slices are there and apart, which references always are.
 
-pub fn clear(
-    words: &mut Words,
-    shape: Shape,
-    cells: &mut [u8],
-    counters: &mut [u8],
-    flags: &mut [u8],
-) -> u8 {
+pub fn clear(words: &mut Words, shape: Shape, state: State<&mut [u8]>) -> u8 {
     unsafe {
         jorivelune_clear(
             words,
             shape.into(),
-            cells.as_mut_ptr(),
-            cells.len(),
-            counters.as_mut_ptr(),
-            counters.len(),
-            flags.as_mut_ptr(),
-            flags.len(),
+            state.cells.as_mut_ptr(),
+            state.cells.len(),
+            state.counters.as_mut_ptr(),
+            state.counters.len(),
+            state.flags.as_mut_ptr(),
+            state.flags.len(),
         )
     }
 }
@@ -205,78 +106,52 @@ pub fn program(words: &mut Words, shape: Shape, cells: &mut [u8], row: usize, le
     }
 }
 
-pub fn start(words: &mut Words, shape: Shape, counters: &mut [u8], flags: &mut [u8]) -> u8 {
+pub fn start(words: &mut Words, shape: Shape, state: State<&mut [u8]>) -> u8 {
     unsafe {
         jorivelune_start(
             words,
             shape.into(),
-            counters.as_mut_ptr(),
-            counters.len(),
-            flags.as_mut_ptr(),
-            flags.len(),
+            state.counters.as_mut_ptr(),
+            state.counters.len(),
+            state.flags.as_mut_ptr(),
+            state.flags.len(),
         )
     }
 }
 
-pub fn step(
-    words: &mut Words,
-    shape: Shape,
-    cells: &[u8],
-    counters: &mut [u8],
-    flags: &mut [u8],
-    matches: &mut [u8],
-) -> u8 {
-    unsafe {
-        jorivelune_step(
-            words,
-            shape.into(),
-            cells.as_ptr(),
-            cells.len(),
-            counters.as_mut_ptr(),
-            counters.len(),
-            flags.as_mut_ptr(),
-            flags.len(),
-            matches.as_mut_ptr(),
-            matches.len(),
-        )
-    }
+/// Step and run are given the same.
+macro_rules! stepping {
+    ($name:ident, $linked:ident) => {
+        pub fn $name(
+            words: &mut Words,
+            shape: Shape,
+            state: State<&mut [u8]>,
+            matches: &mut [u8],
+        ) -> u8 {
+            unsafe {
+                $linked(
+                    words,
+                    shape.into(),
+                    state.cells.as_ptr(),
+                    state.cells.len(),
+                    state.counters.as_mut_ptr(),
+                    state.counters.len(),
+                    state.flags.as_mut_ptr(),
+                    state.flags.len(),
+                    matches.as_mut_ptr(),
+                    matches.len(),
+                )
+            }
+        }
+    };
 }
 
-pub fn run(
-    words: &mut Words,
-    shape: Shape,
-    cells: &[u8],
-    counters: &mut [u8],
-    flags: &mut [u8],
-    matches: &mut [u8],
-) -> u8 {
-    unsafe {
-        jorivelune_run(
-            words,
-            shape.into(),
-            cells.as_ptr(),
-            cells.len(),
-            counters.as_mut_ptr(),
-            counters.len(),
-            flags.as_mut_ptr(),
-            flags.len(),
-            matches.as_mut_ptr(),
-            matches.len(),
-        )
-    }
-}
+stepping!(step, jorivelune_step);
+stepping!(run, jorivelune_run);
 
 pub fn drift(shape: Shape, cells: &mut [u8], row: usize, column: usize, level: u8) -> u8 {
-    unsafe {
-        jorivelune_drift(
-            shape.into(),
-            cells.as_mut_ptr(),
-            cells.len(),
-            row,
-            column,
-            level,
-        )
-    }
+    let (address, length) = (cells.as_mut_ptr(), cells.len());
+    unsafe { jorivelune_drift(shape.into(), address, length, row, column, level) }
 }
 
 pub fn read(shape: Shape, cells: &[u8], row: usize, out: &mut [u8]) -> u8 {
@@ -292,8 +167,8 @@ pub fn read(shape: Shape, cells: &[u8], row: usize, out: &mut [u8]) -> u8 {
     }
 }
 
-pub fn encode(shape: Shape, row: &mut [u8]) -> u8 {
-    unsafe { jorivelune_encode(shape.into(), row.as_mut_ptr(), row.len()) }
+pub fn encode(shape: Shape, codeword: &mut [u8]) -> u8 {
+    unsafe { jorivelune_encode(shape.into(), codeword.as_mut_ptr(), codeword.len()) }
 }
 
 // A result that goes out beside the number starts with a value that no call

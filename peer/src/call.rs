@@ -1,0 +1,226 @@
+//! The calls, listed once, and their making by this build.
+//!
+//! For a call that is added to the listing the compiler asks for an arm in each
+//! runner (here, in [`crate::testing::naive`] and in `tests/proved_calls`) and
+//! in the random generator ([`crate::testing::draw`]). It does not ask for one
+//! in [`crate::testing::arguments`]; where it is missing there, the tests miss
+//! refusals of the call.
+
+use crate::cycle::{self, Cycle};
+use crate::shape::{Refusal, Shape};
+use crate::state::{Bytes, State};
+use crate::{array, code};
+
+/// Makes two enums of one listing: the calls with their arguments, and the
+/// names of the calls alone.
+macro_rules! calls {
+    ($(
+        $(#[$about:meta])*
+        $name:ident $({ $($(#[$says:meta])* $argument:ident: $kind:ty,)* })?,
+    )*) => {
+        /// One call with its arguments. A `B` is there for the buffer of its
+        /// own that a call may write: its bytes, a lent slice or a name.
+        #[derive(Clone, Debug, PartialEq, Eq)]
+        pub enum Call<B> {
+            $($(#[$about])* $name $({ $($(#[$says])* $argument: $kind,)* })?,)*
+        }
+
+        /// A call without its arguments.
+        #[derive(Clone, Copy, Debug, PartialEq, Eq, PartialOrd, Ord)]
+        pub enum Name {
+            $($(#[$about])* $name,)*
+        }
+
+        impl Name {
+            /// All calls.
+            pub const ALL: &'static [Name] = &[$(Name::$name,)*];
+        }
+
+        impl<B> Call<B> {
+            /// Which call it is.
+            pub fn name(&self) -> Name {
+                match self {
+                    $(Call::$name { .. } => Name::$name,)*
+                }
+            }
+        }
+    };
+}
+
+calls! {
+    /// Clear the array.
+    Clear,
+    /// Program a row.
+    Program {
+        /// The row.
+        row: usize,
+        /// Its levels.
+        levels: Vec<u8>,
+    },
+    /// Let a cell drift.
+    Drift {
+        /// The cell's row.
+        row: usize,
+        /// The cell's column.
+        column: usize,
+        /// The level it takes.
+        level: u8,
+    },
+    /// A task lookup.
+    Lookup {
+        /// The inputs.
+        inputs: Vec<u8>,
+        /// The match bytes.
+        matches: B,
+    },
+    /// Start a cycle.
+    Start,
+    /// Make the next step of the cycle.
+    Step {
+        /// The match bytes.
+        matches: B,
+    },
+    /// Run one whole cycle.
+    Run {
+        /// The match bytes.
+        matches: B,
+    },
+    /// Find the first row that matches.
+    FirstMatch {
+        /// The inputs.
+        inputs: Vec<u8>,
+    },
+    /// Ask whether a row is sound.
+    Sound {
+        /// The row.
+        row: usize,
+    },
+    /// Copy the rule cells of a row out.
+    Read {
+        /// The row.
+        row: usize,
+        /// What they are copied into.
+        out: B,
+    },
+    /// Encode one row that lies outside the array.
+    Encode {
+        /// Levels and then any bytes; a codeword afterwards.
+        codeword: B,
+    },
+}
+
+impl Name {
+    /// Whether the call is given the record and hands it back.
+    pub fn has_record(self) -> bool {
+        match self {
+            Name::Clear | Name::Program | Name::Start | Name::Step | Name::Run => true,
+            Name::Drift
+            | Name::Lookup
+            | Name::FirstMatch
+            | Name::Sound
+            | Name::Read
+            | Name::Encode => false,
+        }
+    }
+}
+
+impl<B> Call<B> {
+    /// The same call with something else for the buffer of its own.
+    pub fn map<C>(self, change: impl FnOnce(B) -> C) -> Call<C> {
+        match self {
+            Call::Clear => Call::Clear,
+            Call::Program { row, levels } => Call::Program { row, levels },
+            Call::Drift { row, column, level } => Call::Drift { row, column, level },
+            Call::Lookup { inputs, matches } => Call::Lookup {
+                inputs,
+                matches: change(matches),
+            },
+            Call::Start => Call::Start,
+            Call::Step { matches } => Call::Step {
+                matches: change(matches),
+            },
+            Call::Run { matches } => Call::Run {
+                matches: change(matches),
+            },
+            Call::FirstMatch { inputs } => Call::FirstMatch { inputs },
+            Call::Sound { row } => Call::Sound { row },
+            Call::Read { row, out } => Call::Read {
+                row,
+                out: change(out),
+            },
+            Call::Encode { codeword } => Call::Encode {
+                codeword: change(codeword),
+            },
+        }
+    }
+}
+
+/// What a call gave: nothing, a count, a row or none, yes or no; or the number
+/// of the first question that failed.
+#[derive(Clone, Copy, Debug, PartialEq, Eq)]
+pub enum Answer {
+    /// The call was taken and gives nothing.
+    Done,
+    /// The number of matches.
+    Count(usize),
+    /// The first row that matches.
+    Row(Option<usize>),
+    /// Whether the row is sound.
+    Sound(bool),
+    /// The call was refused.
+    Refused(u8),
+}
+
+impl Answer {
+    /// The answer of a call that gives something.
+    pub fn of<T>(result: Result<T, impl Into<u8>>, taken: impl FnOnce(T) -> Answer) -> Answer {
+        result.map_or_else(|refusal| Answer::Refused(refusal.into()), taken)
+    }
+
+    /// The answer of a call that gives nothing.
+    pub fn done(result: Result<(), impl Into<u8>>) -> Answer {
+        Answer::of(result, |()| Answer::Done)
+    }
+
+    /// 0 for a call that was taken, else the number of the refusal.
+    pub fn number(self) -> u8 {
+        match self {
+            Answer::Refused(number) => number,
+            _ => 0,
+        }
+    }
+}
+
+/// Makes a call of this build.
+pub fn make<S: Bytes, B: Bytes>(
+    shape: Shape,
+    state: &mut State<S>,
+    cycle: &mut Cycle,
+    call: &mut Call<B>,
+) -> Answer {
+    let now = *cycle;
+    let mut keep = |(next, answer): (Cycle, Result<(), Refusal>)| {
+        *cycle = next;
+        Answer::done(answer)
+    };
+    let cells = &mut state.cells;
+    match call {
+        Call::Clear => keep(array::clear(shape, state.lend(), now)),
+        Call::Program { row, levels } => keep(array::program(shape, cells, *row, levels, now)),
+        Call::Start => keep(cycle::start(shape, state.lend(), now)),
+        Call::Step { matches } => keep(cycle::step(shape, state.lend(), matches, now)),
+        Call::Run { matches } => keep(cycle::run(shape, state.lend(), matches, now)),
+        Call::Drift { row, column, level } => {
+            Answer::done(array::drift(shape, cells, *row, *column, *level))
+        }
+        Call::Lookup { inputs, matches } => {
+            Answer::of(array::lookup(shape, cells, inputs, matches), Answer::Count)
+        }
+        Call::FirstMatch { inputs } => {
+            Answer::of(array::first_match(shape, cells, inputs), Answer::Row)
+        }
+        Call::Sound { row } => Answer::of(array::sound(shape, cells, *row), Answer::Sound),
+        Call::Read { row, out } => Answer::done(array::read(shape, cells, *row, out)),
+        Call::Encode { codeword } => Answer::done(code::encode_row(shape, codeword)),
+    }
+}

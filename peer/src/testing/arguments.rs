@@ -1,0 +1,41 @@
+//! The arguments of a call by kind, to be changed, where it has them.
+
+use crate::call::Call;
+
+impl<B> Call<B> {
+    /// The row.
+    pub fn row_mut(&mut self) -> Option<&mut usize> {
+        match self {
+            Call::Program { row, .. }
+            | Call::Drift { row, .. }
+            | Call::Sound { row }
+            | Call::Read { row, .. } => Some(row),
+            _ => None,
+        }
+    }
+
+    /// The column.
+    pub fn column_mut(&mut self) -> Option<&mut usize> {
+        match self {
+            Call::Drift { column, .. } => Some(column),
+            _ => None,
+        }
+    }
+
+    /// The level for one cell.
+    pub fn level_mut(&mut self) -> Option<&mut u8> {
+        match self {
+            Call::Drift { level, .. } => Some(level),
+            _ => None,
+        }
+    }
+
+    /// The levels of a rule, or the inputs of a lookup.
+    pub fn levels_mut(&mut self) -> Option<&mut Vec<u8>> {
+        match self {
+            Call::Program { levels, .. } => Some(levels),
+            Call::Lookup { inputs, .. } | Call::FirstMatch { inputs } => Some(inputs),
+            _ => None,
+        }
+    }
+}

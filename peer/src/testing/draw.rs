@@ -1,0 +1,89 @@
+//! The random generator of calls: an arm for each call, and the sources from
+//! which its arguments are drawn.
+
+use crate::call::{Call, Name};
+use crate::testing::lent::Own;
+use crate::testing::random::Random;
+
+/// Where the arguments of a call come from.
+pub trait Draw {
+    /// What stands for a buffer of the call's own.
+    type Buffer;
+
+    /// A row and the levels of a rule for it.
+    fn rule(&mut self) -> (usize, Vec<u8>);
+    /// A row.
+    fn row(&mut self) -> usize;
+    /// A column.
+    fn column(&mut self) -> usize;
+    /// A level for one cell.
+    fn level(&mut self) -> u8;
+    /// Inputs of a lookup.
+    fn inputs(&mut self) -> Vec<u8>;
+    /// A buffer of the call's own.
+    fn buffer(&mut self, own: Own) -> Self::Buffer;
+}
+
+/// A call of the name.
+pub fn call<D: Draw>(name: Name, draw: &mut D) -> Call<D::Buffer> {
+    match name {
+        Name::Clear => Call::Clear,
+        Name::Program => {
+            let (row, levels) = draw.rule();
+            Call::Program { row, levels }
+        }
+        Name::Drift => Call::Drift {
+            row: draw.row(),
+            column: draw.column(),
+            level: draw.level(),
+        },
+        Name::Lookup => Call::Lookup {
+            inputs: draw.inputs(),
+            matches: draw.buffer(Own::Matches),
+        },
+        Name::Start => Call::Start,
+        Name::Step => Call::Step {
+            matches: draw.buffer(Own::Matches),
+        },
+        Name::Run => Call::Run {
+            matches: draw.buffer(Own::Matches),
+        },
+        Name::FirstMatch => Call::FirstMatch {
+            inputs: draw.inputs(),
+        },
+        Name::Sound => Call::Sound { row: draw.row() },
+        Name::Read => Call::Read {
+            row: draw.row(),
+            out: draw.buffer(Own::Out),
+        },
+        Name::Encode => Call::Encode {
+            codeword: draw.buffer(Own::Codeword),
+        },
+    }
+}
+
+/// Mostly a number below the bound, else any.
+pub fn some_number(random: &mut Random, bound: usize) -> usize {
+    match random.below(10) {
+        0 => bound,
+        1 => random.pick(&[bound + 1, 256, 4096, usize::MAX / 2, usize::MAX]),
+        _ => random.below(bound),
+    }
+}
+
+/// Mostly the wanted length; else one beside it, or none, or any.
+pub fn some_length(random: &mut Random, wanted: usize) -> usize {
+    match random.below(24) {
+        0 => wanted + 1,
+        1 => wanted.saturating_sub(1),
+        2 => 0,
+        3 => random.below(2 * wanted + 2),
+        _ => wanted,
+    }
+}
+
+/// Any bytes, mostly of the wanted length.
+pub fn some_bytes(random: &mut Random, wanted: usize) -> Vec<u8> {
+    let length = some_length(random, wanted);
+    random.bytes(length)
+}

@@ -1,0 +1,131 @@
+//! Random lists of the six calls of demand 3.
+
+use crate::call::{Call, Name};
+use crate::shape::{Layout, Shape};
+use crate::testing::draw::{self, some_bytes, some_length, some_number, Draw};
+use crate::testing::lent::Own;
+use crate::testing::random::Random;
+use crate::testing::shapes::layout;
+
+/// The calls of a list, each as often as its share.
+const SHARES: [Name; 12] = [
+    Name::Clear,
+    Name::Program,
+    Name::Program,
+    Name::Drift,
+    Name::Drift,
+    Name::Drift,
+    Name::Lookup,
+    Name::Lookup,
+    Name::Start,
+    Name::Step,
+    Name::Step,
+    Name::Step,
+];
+
+/// A list of so many pieces: a piece is one call with arbitrary arguments, a
+/// row programmed and then changed in a few cells, or a cycle that is run to
+/// its end, mostly without a disturbance.
+pub fn list(random: &mut Random, shape: Shape, pieces: usize) -> Vec<Call<Vec<u8>>> {
+    let layout = layout(shape);
+    let mut calls = Vec::new();
+    for _ in 0..pieces {
+        match random.below(6) {
+            0..=2 => calls.push(some_call(random, &layout)),
+            3 | 4 => push_changed_row(random, &layout, &mut calls),
+            _ => push_cycle(random, &layout, &mut calls),
+        }
+    }
+    calls
+}
+
+/// One call with arbitrary arguments, most of them in range.
+fn some_call(random: &mut Random, layout: &Layout) -> Call<Vec<u8>> {
+    let name = random.pick(&SHARES);
+    draw::call(name, &mut Mostly { random, layout })
+}
+
+/// Programs a row, then lets up to four of its cells drift.
+fn push_changed_row(random: &mut Random, layout: &Layout, calls: &mut Vec<Call<Vec<u8>>>) {
+    let row = random.below(layout.rows());
+    if random.one_in(2) {
+        let levels = random.levels(layout.levels(), layout.width());
+        calls.push(Call::Program { row, levels });
+    }
+    for _ in 0..random.below(5) {
+        calls.push(Call::Drift {
+            row,
+            column: random.below(layout.columns()),
+            level: random.level(layout.levels()),
+        });
+    }
+}
+
+/// Starts a cycle and makes all its steps; now and then another call comes in
+/// between, or one step more follows.
+fn push_cycle(random: &mut Random, layout: &Layout, calls: &mut Vec<Call<Vec<u8>>>) {
+    calls.push(Call::Start);
+    let disturbed = random.one_in(3);
+    let lookups = layout.lookups();
+    for _ in 0..lookups + random.below(2) {
+        calls.push(Call::Step {
+            matches: random.bytes(layout.rows()),
+        });
+        if disturbed && random.one_in(lookups) {
+            calls.push(some_call(random, layout));
+        }
+    }
+}
+
+/// Arguments of which most are in range.
+struct Mostly<'a> {
+    random: &'a mut Random,
+    layout: &'a Layout,
+}
+
+impl Mostly<'_> {
+    /// Mostly as many good levels as there are rule columns; else more, fewer,
+    /// or a level that is too high.
+    fn levels(&mut self) -> Vec<u8> {
+        let length = some_length(self.random, self.layout.width());
+        let mut levels = self.random.levels(self.layout.levels(), length);
+        if self.random.one_in(8) && length > 0 {
+            let place = self.random.below(length);
+            levels[place] = self.random.byte();
+        }
+        levels
+    }
+}
+
+impl Draw for Mostly<'_> {
+    type Buffer = Vec<u8>;
+
+    fn rule(&mut self) -> (usize, Vec<u8>) {
+        (self.row(), self.levels())
+    }
+
+    fn row(&mut self) -> usize {
+        some_number(self.random, self.layout.rows())
+    }
+
+    fn column(&mut self) -> usize {
+        some_number(self.random, self.layout.columns())
+    }
+
+    /// Mostly a level below the number of levels, else any byte.
+    fn level(&mut self) -> u8 {
+        if self.random.one_in(8) {
+            self.random.byte()
+        } else {
+            self.random.level(self.layout.levels())
+        }
+    }
+
+    fn inputs(&mut self) -> Vec<u8> {
+        self.levels()
+    }
+
+    fn buffer(&mut self, own: Own) -> Vec<u8> {
+        some_bytes(self.random, own.length(self.layout))
+    }
+}

@@ -1,0 +1,39 @@
+//! What the tests share: random shapes, records, calls, lists and jobs, the
+//! definitions in the plainest form, and what prints and compares.
+//!
+//! A longer run, or another one, is asked for in the environment of `cargo
+//! test`; without these variables the run is the usual one ([`settings`] reads
+//! them all):
+//! - `PEER_SEED`: the seed of every random test, in place of its own;
+//! - `PEER_LISTS`: how many lists of calls on small arrays go through the proved
+//!   library, 1,000 or more; all other numbers of lists grow in proportion;
+//! - `PEER_JOBS`: how many good jobs on small arrays go through the proved
+//!   program, 1,200 or more; all other numbers of jobs grow in proportion;
+//! - `RUN_JOB`: the path of the proved program, where it is another one.
+//!
+//! `cargo test --release -- --nocapture` shows the seeds and numbers in force.
+//!
+//! - [`random`]: the generator of numbers;
+//! - [`shapes`], [`records`], [`jobs`], [`damage`]: what is drawn from it;
+//! - [`draw`], [`arguments`], [`lists`]: the generator of calls, the arguments of
+//!   a call, and lists of calls;
+//! - [`lent`], [`guard`]: what is lent to a call, and the bytes around it;
+//! - [`naive`]: the definitions to compare with;
+//! - [`tally`], [`mod@print`], [`program`]: what was seen, how it is printed, and a
+//!   program that is fed.
+
+pub mod arguments;
+pub mod damage;
+pub mod draw;
+pub mod guard;
+pub mod jobs;
+pub mod lent;
+pub mod lists;
+pub mod naive;
+pub mod print;
+pub mod program;
+pub mod random;
+pub mod records;
+pub mod settings;
+pub mod shapes;
+pub mod tally;

@@ -1,0 +1,190 @@
+//! The calls. A refused one leaves all that is lent as it was.
+
+use super::spec::{questions, record, Spec, Vector};
+use super::{all_below, ask};
+use crate::call::{Answer, Call};
+use crate::cycle::{Cycle, Phase};
+use crate::list::Array;
+
+const IDLE: Cycle = Cycle {
+    phase: Phase::Idle,
+    check: 0,
+    digit: 0,
+    column: 0,
+    factor: 0,
+    count: 0,
+};
+
+/// Makes a call by the definitions.
+pub fn make(array: &mut Array, call: &mut Call<Vec<u8>>) -> Answer {
+    match call {
+        Call::Clear => Answer::done(clear(array)),
+        Call::Program { row, levels } => Answer::done(program(array, *row, levels)),
+        Call::Drift { row, column, level } => Answer::done(drift(array, *row, *column, *level)),
+        Call::Lookup { inputs, matches } => {
+            Answer::of(lookup(array, inputs, matches), Answer::Count)
+        }
+        Call::Start => Answer::done(start(array)),
+        Call::Step { matches } => Answer::done(step(array, matches)),
+        Call::Run { matches } => Answer::done(run(array, matches)),
+        Call::FirstMatch { inputs } => Answer::of(first_match(array, inputs), Answer::Row),
+        Call::Sound { row } => Answer::of(sound(array, *row), Answer::Sound),
+        Call::Read { row, out } => Answer::done(read(array, *row, out)),
+        Call::Encode { codeword } => Answer::done(encode(array, codeword)),
+    }
+}
+
+/// Questions 1 to 5, and question 6 for the cells.
+fn ask_cells(array: &Array) -> Result<Spec, u8> {
+    let spec = questions(array.shape)?;
+    ask(array.state.cells.len() == spec.cells(), 6)?;
+    Ok(spec)
+}
+
+/// Question 6 for counters and flags.
+fn ask_rows(array: &Array) -> Result<(), u8> {
+    ask(array.state.counters.len() == array.shape.rows, 6)?;
+    ask(array.state.flags.len() == array.shape.rows, 6)
+}
+
+fn clear(array: &mut Array) -> Result<(), u8> {
+    let spec = ask_cells(array)?;
+    ask_rows(array)?;
+    array.state.cells = vec![0; spec.cells()];
+    array.state.counters = vec![0; array.shape.rows];
+    array.state.flags = vec![0; array.shape.rows];
+    array.cycle = IDLE;
+    Ok(())
+}
+
+fn program(array: &mut Array, row: usize, levels: &[u8]) -> Result<(), u8> {
+    let spec = ask_cells(array)?;
+    ask(levels.len() == array.shape.width, 6)?;
+    ask(row < array.shape.rows, 7)?;
+    ask(all_below(levels, spec.levels), 8)?;
+    for (column, cell) in spec.encoded(levels).into_iter().enumerate() {
+        array.state.cells[row * spec.columns() + column] = cell;
+    }
+    array.cycle = IDLE;
+    Ok(())
+}
+
+fn drift(array: &mut Array, row: usize, column: usize, level: u8) -> Result<(), u8> {
+    let spec = ask_cells(array)?;
+    ask(row < array.shape.rows && column < spec.columns(), 7)?;
+    ask(usize::from(level) < spec.levels, 8)?;
+    array.state.cells[row * spec.columns() + column] = level;
+    Ok(())
+}
+
+fn lookup(array: &Array, inputs: &[u8], matches: &mut Vec<u8>) -> Result<usize, u8> {
+    let spec = ask_cells(array)?;
+    ask(inputs.len() == array.shape.width, 6)?;
+    ask(matches.len() == array.shape.rows, 6)?;
+    ask(all_below(inputs, spec.levels), 8)?;
+    *matches = spec.match_bytes(&array.state.cells, &spec.task_inputs(inputs));
+    Ok(matches.iter().filter(|&&line| line == 1).count())
+}
+
+fn start(array: &mut Array) -> Result<(), u8> {
+    let spec = questions(array.shape)?;
+    ask_rows(array)?;
+    array.state.counters = vec![0; array.shape.rows];
+    array.state.flags = vec![0; array.shape.rows];
+    array.cycle = record(&spec.schedule(), 0);
+    Ok(())
+}
+
+fn step(array: &mut Array, matches: &mut Vec<u8>) -> Result<(), u8> {
+    let spec = questions(array.shape)?;
+    step_with(&spec, &spec.schedule(), array, matches)
+}
+
+/// A step with the schedule of the shape at hand.
+pub fn step_with(
+    spec: &Spec,
+    schedule: &[Vector],
+    array: &mut Array,
+    matches: &mut Vec<u8>,
+) -> Result<(), u8> {
+    ask(array.state.cells.len() == spec.cells(), 6)?;
+    ask_rows(array)?;
+    ask(matches.len() == spec.shape.rows, 6)?;
+    let count = array.cycle.count;
+    ask(count < schedule.len(), 9)?;
+    ask(array.cycle == record(schedule, count), 9)?;
+    *matches = spec.match_bytes(&array.state.cells, &spec.inputs(schedule[count]));
+    count_matches(spec, array, matches);
+    close(schedule, count, array);
+    array.cycle = record(schedule, count + 1);
+    Ok(())
+}
+
+/// Each match byte is added to its row's counter mod ρ.
+fn count_matches(spec: &Spec, array: &mut Array, matches: &[u8]) {
+    let radix = spec.shape.radix;
+    for (counter, &line) in array.state.counters.iter_mut().zip(matches) {
+        let sum = usize::from(*counter) % radix + usize::from(line);
+        *counter = (sum % radix) as u8;
+    }
+}
+
+/// What the end of a digit and the end of a check bring.
+fn close(schedule: &[Vector], count: usize, array: &mut Array) {
+    let now = schedule[count];
+    let next = schedule.get(count + 1);
+    let rows = array.shape.rows;
+    if next.is_none_or(|next| (next.check, next.digit) != (now.check, now.digit)) {
+        for row in 0..rows {
+            if array.state.counters[row] != 0 {
+                array.state.flags[row] = 1;
+            }
+        }
+    }
+    if next.is_none_or(|next| next.check != now.check) {
+        array.state.counters = vec![0; rows];
+    }
+}
+
+/// A start and as many steps as the schedule has vectors.
+fn run(array: &mut Array, matches: &mut Vec<u8>) -> Result<(), u8> {
+    let spec = ask_cells(array)?;
+    ask(matches.len() == array.shape.rows, 6)?;
+    start(array)?;
+    let schedule = spec.schedule();
+    for _ in &schedule {
+        step_with(&spec, &schedule, array, matches)?;
+    }
+    Ok(())
+}
+
+fn first_match(array: &Array, inputs: &[u8]) -> Result<Option<usize>, u8> {
+    let spec = ask_cells(array)?;
+    ask(inputs.len() == array.shape.width, 6)?;
+    ask(all_below(inputs, spec.levels), 8)?;
+    let lines = spec.match_bytes(&array.state.cells, &spec.task_inputs(inputs));
+    Ok((0..array.shape.rows).find(|&row| lines[row] == 1))
+}
+
+fn sound(array: &Array, row: usize) -> Result<bool, u8> {
+    let spec = ask_cells(array)?;
+    ask(row < array.shape.rows, 7)?;
+    Ok(spec.is_sound(spec.row(&array.state.cells, row)))
+}
+
+fn read(array: &Array, row: usize, out: &mut Vec<u8>) -> Result<(), u8> {
+    let spec = ask_cells(array)?;
+    ask(out.len() == array.shape.width, 6)?;
+    ask(row < array.shape.rows, 7)?;
+    *out = spec.row(&array.state.cells, row)[..array.shape.width].to_vec();
+    Ok(())
+}
+
+fn encode(array: &Array, codeword: &mut Vec<u8>) -> Result<(), u8> {
+    let spec = questions(array.shape)?;
+    ask(codeword.len() == spec.columns(), 6)?;
+    let levels = &codeword[..array.shape.width];
+    ask(all_below(levels, spec.levels), 8)?;
+    *codeword = spec.encoded(levels);
+    Ok(())
+}

@@ -1,0 +1,20 @@
+//! The definitions written out in the plainest way, to compare with. Nothing
+//! here uses the library but for the names of a shape, an array, a record and
+//! a call.
+
+pub mod calls;
+pub mod job;
+pub mod spec;
+
+/// Yes goes on, no gives the number.
+fn ask(yes: bool, number: u8) -> Result<(), u8> {
+    if yes {
+        Ok(())
+    } else {
+        Err(number)
+    }
+}
+
+fn all_below(levels: &[u8], bound: usize) -> bool {
+    levels.iter().all(|&level| usize::from(level) < bound)
+}

@@ -1,0 +1,238 @@
+//! Shapes, the parity-check matrix, codewords, match lines and the schedule.
+
+use crate::cycle::{Cycle, Phase};
+use crate::shape::Shape;
+
+/// A shape that passed questions 1 to 5, with what follows from it.
+#[derive(Clone, Debug)]
+pub struct Spec {
+    /// The shape.
+    pub shape: Shape,
+    /// q.
+    pub levels: usize,
+    /// r.
+    pub checks: usize,
+    /// The columns of the parity-check matrix.
+    pub matrix: Vec<usize>,
+}
+
+/// One test vector of the schedule.
+#[derive(Clone, Copy, Debug, PartialEq, Eq)]
+pub struct Vector {
+    /// ℓ.
+    pub check: usize,
+    /// s.
+    pub digit: usize,
+    /// j.
+    pub column: usize,
+    /// a.
+    pub factor: usize,
+}
+
+/// Questions 1 to 5.
+pub fn questions(shape: Shape) -> Result<Spec, u8> {
+    if shape.radix < 2 || shape.radix > 255 {
+        return Err(1);
+    }
+    if shape.digits < 1 || shape.digits > 8 || shape.radix.pow(shape.digits as u32) > 256 {
+        return Err(2);
+    }
+    if shape.errors < 1 || shape.errors > 3 {
+        return Err(3);
+    }
+    if shape.width < 1 || shape.width > 254 {
+        return Err(4);
+    }
+    let checks = checks(shape.errors, shape.width).ok_or(4)?;
+    if shape.rows < 1 || shape.rows > 4096 {
+        return Err(5);
+    }
+    Ok(Spec {
+        shape,
+        levels: shape.radix.pow(shape.digits as u32),
+        checks,
+        matrix: matrix(shape.errors, shape.width, checks),
+    })
+}
+
+/// The least number of check columns, by the formulas.
+fn checks(errors: usize, width: usize) -> Option<usize> {
+    match errors {
+        1 => (width <= 254).then_some(1),
+        2 => (1..=8).find(|&r| width < (1 << r) - r),
+        _ => (1..=8).find(|&r| width + r <= 1 << (r - 1)),
+    }
+}
+
+/// The columns of the parity-check matrix: sorted, then the check columns.
+fn matrix(errors: usize, width: usize, checks: usize) -> Vec<usize> {
+    let mut matrix: Vec<usize> = match errors {
+        1 => vec![1; width],
+        2 => (1..1usize << checks)
+            .filter(|c| c.count_ones() >= 2)
+            .collect(),
+        _ => (1..1usize << checks)
+            .filter(|c| c.count_ones() >= 3 && c.count_ones() % 2 == 1)
+            .collect(),
+    };
+    matrix.sort_by_key(|c| (c.count_ones(), *c));
+    matrix.truncate(width);
+    assert_eq!(matrix.len(), width);
+    matrix.extend((0..checks).map(|check| 1 << check));
+    matrix
+}
+
+/// The digit of a level at a place.
+fn digit(level: usize, radix: usize, place: usize) -> usize {
+    level / radix.pow(place as u32) % radix
+}
+
+impl Spec {
+    /// n.
+    pub fn columns(&self) -> usize {
+        self.shape.width + self.checks
+    }
+
+    /// m × n.
+    pub fn cells(&self) -> usize {
+        self.shape.rows * self.columns()
+    }
+
+    /// J(ℓ).
+    pub fn support(&self, check: usize) -> Vec<usize> {
+        (0..self.columns())
+            .filter(|&column| self.matrix[column] / (1 << check) % 2 == 1)
+            .collect()
+    }
+
+    /// W.
+    pub fn weight(&self) -> usize {
+        (0..self.checks)
+            .map(|check| self.support(check).len())
+            .sum()
+    }
+
+    /// The number of vectors of the schedule.
+    pub fn lookups(&self) -> usize {
+        (self.levels - 1) * self.weight()
+    }
+
+    /// Whether a row is sound, by the definition.
+    pub fn is_sound(&self, row: &[u8]) -> bool {
+        assert_eq!(row.len(), self.columns());
+        row.iter().all(|&cell| usize::from(cell) < self.levels)
+            && (0..self.checks).all(|check| {
+                (0..self.shape.digits).all(|place| {
+                    let sum: usize = self
+                        .support(check)
+                        .iter()
+                        .map(|&column| digit(row[column].into(), self.shape.radix, place))
+                        .sum();
+                    sum.is_multiple_of(self.shape.radix)
+                })
+            })
+    }
+
+    /// The levels and then the check cells that make them sound.
+    pub fn encoded(&self, levels: &[u8]) -> Vec<u8> {
+        let mut row = levels.to_vec();
+        row.extend((0..self.checks).map(|check| self.check_cell(check, levels)));
+        row
+    }
+
+    /// The check cell of ℓ, found by trying the digits.
+    fn check_cell(&self, check: usize, levels: &[u8]) -> u8 {
+        let radix = self.shape.radix;
+        let mut support = self.support(check);
+        support.retain(|&column| column < self.shape.width);
+        let mut cell = 0;
+        for place in 0..self.shape.digits {
+            let sum: usize = support
+                .iter()
+                .map(|&column| digit(levels[column].into(), radix, place))
+                .sum();
+            let wanted = (0..radix).find(|d| (sum + d).is_multiple_of(radix));
+            cell += wanted.expect("a digit") * radix.pow(place as u32);
+        }
+        u8::try_from(cell).expect("a level")
+    }
+
+    /// The schedule as nested loops.
+    pub fn schedule(&self) -> Vec<Vector> {
+        let radix = self.shape.radix;
+        let mut vectors = Vec::new();
+        for check in 0..self.checks {
+            for digit in (0..self.shape.digits).rev() {
+                for column in self.support(check) {
+                    for factor in 1..self.levels / radix.pow(digit as u32) {
+                        if factor % radix != 0 {
+                            vectors.push(Vector {
+                                check,
+                                digit,
+                                column,
+                                factor,
+                            });
+                        }
+                    }
+                }
+            }
+        }
+        vectors
+    }
+
+    /// The full vector of n inputs.
+    pub fn inputs(&self, vector: Vector) -> Vec<u8> {
+        let mut inputs = vec![0; self.columns()];
+        let level = vector.factor * self.shape.radix.pow(vector.digit as u32);
+        inputs[vector.column] = u8::try_from(level).expect("a level");
+        inputs
+    }
+
+    /// One row of the cells.
+    pub fn row<'a>(&self, cells: &'a [u8], row: usize) -> &'a [u8] {
+        &cells[row * self.columns()..(row + 1) * self.columns()]
+    }
+
+    /// The match bytes of a full vector.
+    pub fn match_bytes(&self, cells: &[u8], inputs: &[u8]) -> Vec<u8> {
+        (0..self.shape.rows)
+            .map(|row| match_line(self.row(cells, row), inputs))
+            .collect()
+    }
+
+    /// A task lookup's full vector: the check columns are fed 0.
+    pub fn task_inputs(&self, inputs: &[u8]) -> Vec<u8> {
+        let mut full = inputs.to_vec();
+        full.resize(self.columns(), 0);
+        full
+    }
+}
+
+/// The match byte of a row under a full vector.
+fn match_line(row: &[u8], inputs: &[u8]) -> u8 {
+    assert_eq!(row.len(), inputs.len());
+    let no = row.iter().zip(inputs).any(|(cell, input)| input > cell);
+    u8::from(!no)
+}
+
+/// The record before the vector with the given number in the schedule.
+pub fn record(schedule: &[Vector], count: usize) -> Cycle {
+    match schedule.get(count) {
+        Some(vector) => Cycle {
+            phase: Phase::Open,
+            check: vector.check,
+            digit: vector.digit,
+            column: vector.column,
+            factor: vector.factor,
+            count,
+        },
+        None => Cycle {
+            phase: Phase::Complete,
+            check: 0,
+            digit: 0,
+            column: 0,
+            factor: 0,
+            count,
+        },
+    }
+}

@@ -1,0 +1,66 @@
+//! How often each call was taken, and refused with each number.
+
+use std::collections::BTreeMap;
+use std::fmt::{self, Debug};
+
+use crate::call::{Answer, Name};
+
+/// The last question that every call asks: the lengths of its buffers.
+const LENGTH: u8 = 6;
+
+/// How often each call was answered with each number, 0 where it was taken.
+#[derive(Default)]
+pub struct Tally(BTreeMap<(Name, u8), usize>);
+
+/// The questions that a call asks besides 1 to 6.
+fn own_questions(name: Name) -> &'static [u8] {
+    match name {
+        Name::Clear | Name::Start | Name::Run => &[],
+        Name::Program | Name::Drift => &[7, 8],
+        Name::Lookup | Name::FirstMatch | Name::Encode => &[8],
+        Name::Step => &[9],
+        Name::Sound | Name::Read => &[7],
+    }
+}
+
+impl Tally {
+    /// Counts one call.
+    pub fn add(&mut self, name: Name, answer: Answer) {
+        *self.0.entry((name, answer.number())).or_default() += 1;
+    }
+
+    /// The number of all calls.
+    pub fn calls(&self) -> usize {
+        self.0.values().sum()
+    }
+
+    /// Each call was taken, and refused with each number it has the matter for
+    /// and with no other.
+    ///
+    /// # Panics
+    ///
+    /// If that is not so.
+    pub fn assert_complete(&self) {
+        for &name in Name::ALL {
+            for number in 0..=u8::MAX {
+                let seen = self.0.contains_key(&(name, number));
+                let possible = number <= LENGTH || own_questions(name).contains(&number);
+                assert_eq!(seen, possible, "{name:?} {number}: {self:?}");
+            }
+        }
+    }
+}
+
+/// For each call its numbers, and how often each was seen.
+impl Debug for Tally {
+    fn fmt(&self, f: &mut fmt::Formatter) -> fmt::Result {
+        for name in Name::ALL {
+            write!(f, "{name:?}")?;
+            for ((_, number), times) in self.0.iter().filter(|((of, _), _)| of == name) {
+                write!(f, " {number}×{times}")?;
+            }
+            write!(f, "; ")?;
+        }
+        Ok(())
+    }
+}

@@ -1,0 +1,108 @@
+//! A call as it is drawn for both builds: right at first, and then perhaps
+//! spoiled.
+
+use peer::testing::draw::{some_length, some_number, Draw};
+use peer::testing::lent::{Lent, Own};
+use peer::testing::random::Random;
+use peer::testing::shapes::{small_shape, spoil};
+use peer::{Call, Layout, Shape};
+
+/// One call, on a shape, and the lengths that are lent. Its own buffer is
+/// named.
+#[derive(Clone, Debug, PartialEq, Eq)]
+pub struct Drawn {
+    pub shape: Shape,
+    pub lengths: Lent<usize>,
+    pub call: Call<Own>,
+}
+
+/// Arguments with nothing wrong in them.
+pub struct Right<'a> {
+    pub random: &'a mut Random,
+    pub layout: &'a Layout,
+}
+
+impl Draw for Right<'_> {
+    type Buffer = Own;
+
+    fn rule(&mut self) -> (usize, Vec<u8>) {
+        let levels = self.layout.levels();
+        let rule = self.random.levels(levels, self.layout.width());
+        (self.row(), rule)
+    }
+
+    fn row(&mut self) -> usize {
+        self.random.below(self.layout.rows())
+    }
+
+    fn column(&mut self) -> usize {
+        self.random.below(self.layout.columns())
+    }
+
+    fn level(&mut self) -> u8 {
+        self.random.level(self.layout.levels())
+    }
+
+    /// Often low ones, so that rows match.
+    fn inputs(&mut self) -> Vec<u8> {
+        let levels = self.layout.levels();
+        let bound = self.random.pick(&[2, 3, levels]).min(levels);
+        self.random.levels(bound, self.layout.width())
+    }
+
+    fn buffer(&mut self, own: Own) -> Own {
+        own
+    }
+}
+
+impl Drawn {
+    /// Puts something wrong in up to three times. What the call does not have is
+    /// spoiled to no effect. No part gets longer than there is room for.
+    pub fn spoil(&mut self, random: &mut Random, layout: &Layout, room: Lent<usize>) {
+        let mut none = Vec::new();
+        for _ in 0..random.below(4) {
+            match random.below(7) {
+                0 => spoil(random, &mut self.shape),
+                1 => self.change_levels(random),
+                2 | 3 => self.change_length(random, room),
+                4 => self.move_away(random, layout),
+                5 => {
+                    *self.call.level_mut().unwrap_or(&mut 0) = random.byte();
+                    spoil_level(random, self.call.levels_mut().unwrap_or(&mut none));
+                }
+                _ => {
+                    let levels = self.call.levels_mut().unwrap_or(&mut none);
+                    levels.resize(some_length(random, levels.len()), 0);
+                }
+            }
+        }
+    }
+
+    /// Another number of levels.
+    fn change_levels(&mut self, random: &mut Random) {
+        let other = small_shape(random);
+        self.shape.radix = other.radix;
+        self.shape.digits = other.digits;
+    }
+
+    /// Another length of any buffer.
+    fn change_length(&mut self, random: &mut Random, mut room: Lent<usize>) {
+        let place = random.below(Lent::BUFFERS);
+        let length = self.lengths.at(place);
+        *length = some_length(random, *length).min(*room.at(place));
+    }
+
+    /// Another row and column, inside or outside.
+    fn move_away(&mut self, random: &mut Random, layout: &Layout) {
+        *self.call.row_mut().unwrap_or(&mut 0) = some_number(random, layout.rows());
+        *self.call.column_mut().unwrap_or(&mut 0) = some_number(random, layout.columns());
+    }
+}
+
+/// Any byte for one of the levels.
+fn spoil_level(random: &mut Random, levels: &mut [u8]) {
+    if !levels.is_empty() {
+        let place = random.below(levels.len());
+        levels[place] = random.byte();
+    }
+}

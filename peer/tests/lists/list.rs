@@ -1,0 +1,166 @@
+//! A list on one shape, on its way through both builds.
+
+use peer::testing::draw;
+use peer::testing::guard::Guarded;
+use peer::testing::lent::Lent;
+use peer::testing::naive::spec::{questions, Vector};
+use peer::testing::random::Random;
+use peer::testing::records::{cycle_of, forged, words_of, Words};
+use peer::testing::tally::Tally;
+use peer::{Answer, Cycle, Layout, Name, Phase, Shape};
+
+use crate::drawn::{Drawn, Right};
+use crate::event::{Event, Events};
+use crate::side::Side;
+
+/// What all lists together did.
+#[derive(Debug, Default)]
+pub struct Seen {
+    pub tally: Tally,
+    /// The calls on shapes that catch so many changed cells.
+    pub by_errors: [usize; 4],
+    /// Cycles that ended by a step.
+    pub ended: usize,
+    /// Forged records that a step refused, and such with a phase of no name.
+    pub forged: usize,
+    pub nameless: usize,
+}
+
+pub struct List<'a> {
+    pub random: Random,
+    pub shape: Shape,
+    pub layout: Layout,
+    pub schedule: Vec<Vector>,
+    pub ours: Side,
+    pub seen: &'a mut Seen,
+    seed: u64,
+    proved: Side,
+    events: Events,
+}
+
+impl<'a> List<'a> {
+    /// The beginning: buffers with any bytes and a record with any fields.
+    pub fn new(seed: u64, shape: impl Fn(&mut Random) -> Shape, seen: &'a mut Seen) -> List<'a> {
+        let mut random = Random::new(seed);
+        let shape = shape(&mut random);
+        let layout = shape.layout().expect("a good shape");
+        let lengths = Lent::lengths(&layout);
+        let side = Side {
+            lent: lengths.map(|length| Guarded::drawn(&mut random, length)),
+            words: words_of(forged(&mut random, Cycle::IDLE)),
+        };
+        let mut list = List {
+            random,
+            shape,
+            layout,
+            schedule: questions(shape).expect("a good shape").schedule(),
+            ours: side.clone(),
+            seen,
+            seed,
+            proved: side,
+            events: Events::default(),
+        };
+        list.note_beginning();
+        list
+    }
+
+    /// Notes the record, and the bytes of a small array.
+    fn note_beginning(&mut self) {
+        self.events.note(Event::Record(self.ours.words));
+        if self.layout.cells() <= 1_000 {
+            for (buffer, bytes) in self.ours.lent.each().into_iter().enumerate() {
+                self.events.note(Event::Bytes {
+                    buffer,
+                    place: 0,
+                    bytes: bytes.to_vec(),
+                });
+            }
+        }
+    }
+
+    /// A call with nothing wrong in it but perhaps its record.
+    pub fn right(&mut self, name: Name) -> Drawn {
+        let mut right = Right {
+            random: &mut self.random,
+            layout: &self.layout,
+        };
+        Drawn {
+            shape: self.shape,
+            lengths: Lent::lengths(&self.layout),
+            call: draw::call(name, &mut right),
+        }
+    }
+
+    /// Makes a call in both builds and compares.
+    pub fn make(&mut self, drawn: Drawn) -> Answer {
+        let name = drawn.call.name();
+        let (proved, arguments) = self.proved.proved(&drawn);
+        let ours = self.ours.ours(&drawn);
+        let unwritten = arguments == drawn.call.clone().map(|_| ());
+        self.events.note(Event::Call(drawn));
+        if proved != Some(ours) {
+            self.fail(&format!("the answers {proved:?} and {ours:?}"));
+        }
+        if !unwritten {
+            self.fail("the arguments");
+        }
+        self.compare();
+        self.seen.tally.add(name, ours);
+        self.seen.by_errors[self.shape.errors] += 1;
+        if name == Name::Step && ours == Answer::Done && self.phase() == Phase::Complete {
+            self.seen.ended += 1;
+        }
+        ours
+    }
+
+    fn compare(&self) {
+        if self.proved.words != self.ours.words {
+            let (proved, ours) = (self.proved.words, self.ours.words);
+            self.fail(&format!("the records {proved:?} and {ours:?}"));
+        }
+        let pairs = self
+            .proved
+            .lent
+            .each()
+            .into_iter()
+            .zip(self.ours.lent.each());
+        for (name, (proved, ours)) in Lent::names().into_iter().zip(pairs) {
+            if proved != ours {
+                self.fail(&format!("the {name} {}", proved.difference(ours)));
+            }
+        }
+    }
+
+    /// Ends the test: prints the seed and the list as far as it went.
+    fn fail(&self, what: &str) -> ! {
+        panic!(
+            "{what} differ after the last call of the list with seed {} on {}\n{}",
+            self.seed, self.shape, self.events
+        );
+    }
+
+    pub fn phase(&self) -> Phase {
+        cycle_of(&self.ours.words).phase
+    }
+
+    /// Somebody else writes bytes into a buffer.
+    pub fn write(&mut self, buffer: usize, place: usize, bytes: Vec<u8>) {
+        for side in [&mut self.proved, &mut self.ours] {
+            let part = side.lent.at(buffer);
+            part.set_length(place + bytes.len());
+            part[place..].copy_from_slice(&bytes);
+        }
+        self.events.note(Event::Bytes {
+            buffer,
+            place,
+            bytes,
+        });
+    }
+
+    /// Somebody else writes the record.
+    pub fn put(&mut self, words: Words) {
+        self.proved.words = words;
+        self.ours.words = words;
+        self.events.note(Event::Record(words));
+    }
+}

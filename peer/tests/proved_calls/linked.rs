@@ -1,0 +1,144 @@
+//! The functions of the archive as they are declared in C.
+
+use peer::testing::records::Words;
+use peer::Shape;
+
+/// What the calls say where there is no archive.
+const MISSING: &str = "target/staticlib/libffi.a is missing: run rt staticlib ffi";
+
+/// The shape as it crosses.
+#[repr(C)]
+#[derive(Clone, Copy)]
+pub struct Numbers {
+    radix: usize,
+    digits: usize,
+    errors: usize,
+    width: usize,
+    rows: usize,
+}
+
+impl From<Shape> for Numbers {
+    fn from(shape: Shape) -> Numbers {
+        Numbers {
+            radix: shape.radix,
+            digits: shape.digits,
+            errors: shape.errors,
+            width: shape.width,
+            rows: shape.rows,
+        }
+    }
+}
+
+/// Declares the functions, or has each of them fail where they are not linked.
+macro_rules! linked {
+    ($(fn $name:ident($($argument:ident: $kind:ty),* $(,)?) -> u8;)*) => {
+        #[cfg(proved)]
+        #[link(name = "ffi", kind = "static")]
+        extern "C" {
+            $(pub fn $name($($argument: $kind),*) -> u8;)*
+        }
+
+        $(
+            #[cfg(not(proved))]
+            pub unsafe fn $name($(_: $kind),*) -> u8 {
+                panic!("{MISSING}")
+            }
+        )*
+    };
+}
+
+linked! {
+    fn jorivelune_clear(
+        words: *mut Words,
+        shape: Numbers,
+        cells: *mut u8,
+        cells_length: usize,
+        counters: *mut u8,
+        counters_length: usize,
+        flags: *mut u8,
+        flags_length: usize,
+    ) -> u8;
+    fn jorivelune_program(
+        words: *mut Words,
+        shape: Numbers,
+        cells: *mut u8,
+        cells_length: usize,
+        row: usize,
+        levels: *const u8,
+        levels_length: usize,
+    ) -> u8;
+    fn jorivelune_start(
+        words: *mut Words,
+        shape: Numbers,
+        counters: *mut u8,
+        counters_length: usize,
+        flags: *mut u8,
+        flags_length: usize,
+    ) -> u8;
+    fn jorivelune_step(
+        words: *mut Words,
+        shape: Numbers,
+        cells: *const u8,
+        cells_length: usize,
+        counters: *mut u8,
+        counters_length: usize,
+        flags: *mut u8,
+        flags_length: usize,
+        matches: *mut u8,
+        matches_length: usize,
+    ) -> u8;
+    fn jorivelune_run(
+        words: *mut Words,
+        shape: Numbers,
+        cells: *const u8,
+        cells_length: usize,
+        counters: *mut u8,
+        counters_length: usize,
+        flags: *mut u8,
+        flags_length: usize,
+        matches: *mut u8,
+        matches_length: usize,
+    ) -> u8;
+    fn jorivelune_drift(
+        shape: Numbers,
+        cells: *mut u8,
+        cells_length: usize,
+        row: usize,
+        column: usize,
+        level: u8,
+    ) -> u8;
+    fn jorivelune_read(
+        shape: Numbers,
+        cells: *const u8,
+        cells_length: usize,
+        row: usize,
+        out: *mut u8,
+        out_length: usize,
+    ) -> u8;
+    fn jorivelune_encode(shape: Numbers, codeword: *mut u8, codeword_length: usize) -> u8;
+    fn jorivelune_lookup(
+        shape: Numbers,
+        cells: *const u8,
+        cells_length: usize,
+        inputs: *const u8,
+        inputs_length: usize,
+        matches: *mut u8,
+        matches_length: usize,
+        count: *mut usize,
+    ) -> u8;
+    fn jorivelune_first_match(
+        shape: Numbers,
+        cells: *const u8,
+        cells_length: usize,
+        inputs: *const u8,
+        inputs_length: usize,
+        found: *mut usize,
+    ) -> u8;
+    fn jorivelune_sound(
+        shape: Numbers,
+        cells: *const u8,
+        cells_length: usize,
+        row: usize,
+        holds: *mut u8,
+    ) -> u8;
+}
