@@ -9,8 +9,7 @@ use native.Mathlib.Omega.{arith}
 use lib.Dec.{leb}
 use lib.ListN.{length, getD, take, drop}
 use lib.Seq.{drop-cons, drop-length, length-take-le, getD-take}
-use borrow.Author.Tests.{le-leb, lt-leb}
-use Rattle.parity.specs.Match.{allAnswer}
+use Rattle.parity.specs.Match.{answers, allAnswer}
 
 -- the comparison from place j on
 abbrev pub compared : List ℕ → List ℕ → ℕ → Bool
@@ -23,12 +22,12 @@ module _ (inputs row : List ℕ) (fits : length inputs ≤ length row) where
       ap₂ allAnswer (drop-cons inputs j 0 h) (drop-cons (take (length inputs) row) j 0 (omega arith))
       ∙ ap (λ v. leb (getD inputs j 0) v && compared inputs row (suc j)) (getD-take (length inputs) row j 0 h)
 
-  pub compare-fails : (j : ℕ) → j < length inputs → getD row j 0 < getD inputs j 0 → compared inputs row j ≡ false
-  compare-fails j h below = step j h ∙ ap (λ t. t && compared inputs row (suc j)) (lt-leb (getD inputs j 0) (getD row j 0) below)
+  pub compare-fails : (j : ℕ) → j < length inputs → answers (getD inputs j 0) (getD row j 0) ≡ false → compared inputs row j ≡ false
+  compare-fails j h e = step j h ∙ ap (λ t. t && compared inputs row (suc j)) e
 
-  pub compare-passes : (j : ℕ) → j < length inputs → getD inputs j 0 ≤ getD row j 0 → compared inputs row j ≡ compared inputs row (j + 1)
-  compare-passes j h within =
-      step j h ∙ ap (λ t. t && compared inputs row (suc j)) (le-leb (getD inputs j 0) (getD row j 0) within)
+  pub compare-passes : (j : ℕ) → j < length inputs → answers (getD inputs j 0) (getD row j 0) ≡ true → compared inputs row j ≡ compared inputs row (j + 1)
+  compare-passes j h e =
+      step j h ∙ ap (λ t. t && compared inputs row (suc j)) e
       ∙ ap (compared inputs row) (sym (add-one j))
 
   pub compare-ended : compared inputs row (length inputs) ≡ true

@@ -14,10 +14,7 @@ use Rattle.parity.proofs.ListLaws.{tabulate-constant}
 use Rattle.parity.proofs.Digits.{number-below}
 use Rattle.parity.proofs.Sums.{checkSum, digitSum-checkSum}
 use Rattle.parity.proofs.MatrixFacts.{rules-sized}
-
--- what brings a sum to 0 mod ρ
-abbrev pub missing : ℕ → ℕ → ℕ
-missing ρ sum = (ρ - sum % ρ) % ρ
+use Rattle.acam.specs.Digits.{missing}
 
 -- check cell ℓ with its first s digits, beside these rule columns and rule cells
 abbrev pub cellAt : ℕ → List ℕ → List ℕ → ℕ → ℕ → ℕ

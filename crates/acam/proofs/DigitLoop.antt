@@ -14,9 +14,9 @@ use Rattle.parity.specs.declared.Shape.{Shape}
 use Rattle.parity.proofs.ListLaws.{getD-tabulate}
 use Rattle.parity.proofs.Sums.{checkSum}
 use Rattle.parity.proofs.Taken.{limits}
-use Rattle.matrix.specs.Matrices.{matrixArray}
-use Rattle.matrix.proofs.Sizes.{columns-high}
-use Rattle.matrix.proofs.MatrixArray.{array-sized}
+use Rattle.acam.specs.Matrices.{matrixArray}
+use Rattle.acam.proofs.Sizes.{columns-high}
+use Rattle.acam.proofs.MatrixArray.{array-sized}
 
 module _ (shape : Shape) (t : Taken shape) (s : ℕ) where
   -- a level of s + 1 digits is a byte

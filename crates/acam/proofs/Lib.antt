@@ -1,4 +1,8 @@
--- The laws that several functions' proofs cite, and the proofs of this crate's functions, each in the folder of its function.
+-- The laws that several functions' proofs cite, here and in the crates above.
+pub mod Sizes
+pub mod Weights
+pub mod Blocks
+pub mod MatrixArray
 pub mod Tail
 pub mod Reciprocal
 pub mod DigitLoop

@@ -1,17 +1,25 @@
-// The comparator: the match byte of a row.
+// The comparator: the match rule, and the match byte of a row.
 ghost use mathlib.Core.Path.{_≡_};
 ghost use Prim.Native.Nat.{_≤_};
 ghost use lib.ListN.{length, take};
-ghost use Rattle.parity.specs.Match.{matchByte};
+ghost use Rattle.parity.specs.Match.{answers as answersTo, matchByte};
+ghost use Rattle.shape.specs.Lent.{was};
 
-// 1 where every input is at most its cell, else 0. Cells beyond the inputs are fed 0 and always answer 1.
+// The match rule, coded here alone: a cell answers 1 exactly when input ≤ cell.
+pub fn answers(input: u8, cell: u8) -> bool
+    ensures { λ r. ⌜ r ≡ answersTo input cell ⌝ }
+{
+    input <= cell
+}
+
+// 1 where every cell answers 1 to its input, else 0. Cells beyond the inputs are fed 0 and always answer 1.
 pub fn match_byte(inputs: &[u8], row: &[u8]) -> u8
     requires { ⌜ length (now inputs) ≤ length (now row) ⌝ }
-    ensures { λ r. ⌜ r ≡ matchByte (now (inputs .entry)) (take (length (now (inputs .entry))) (now (row .entry))) ⌝ }
+    ensures { λ r. ⌜ r ≡ matchByte (was inputs) (take (length (was inputs)) (was row)) ⌝ }
 {
     let mut j: usize = 0;
     while j < inputs.len() {
-        if row[j] < inputs[j] {
+        if !answers(inputs[j], row[j]) {
             return 0;
         }
         j += 1;

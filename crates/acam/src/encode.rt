@@ -1,22 +1,32 @@
 // The encoder: the check cells of a row from its rule cells.
+use super::matrix::matrix_of;
+use super::sound::all_below;
 use super::sums::digit_sums;
-use limits::byte::fill;
-use limits::byte::wide;
 use parity::Shape;
+use shape::answer::Outcome;
+use shape::byte::fill;
+use shape::byte::wide;
+use shape::sizes::Checked;
+use shape::sizes::check_shape;
 ghost use mathlib.Core.Path.{_≡_};
-ghost use Prim.Native.Nat.{ℕ, _+_, _-_, _*_, _%_, _≤_, _<_};
-ghost use lib.ListN.{length, getD, take};
+ghost use mathlib.Core.List.{[]};
+ghost use Prim.Native.Nat.{ℕ, _≤_, _<_};
+ghost use lib.ListN.{length, take};
 ghost use Rattle.parity.specs.Lists.{tabulate};
 ghost use Rattle.parity.specs.Shape.{columns as columnsOf};
 ghost use Rattle.parity.specs.Codeword.{encode};
 ghost use Rattle.parity.specs.Questions.{Taken};
-ghost use Rattle.matrix.specs.Matrices.{matrixArray};
+ghost use Rattle.acam.specs.Matrices.{matrixArray};
+ghost use Rattle.acam.specs.Digits.{completed};
+ghost use Rattle.acam.specs.Rows.{encodeCall};
+ghost use Rattle.shape.specs.Answers.{outcomeSays, giving};
+ghost use Rattle.shape.specs.Lent.{was, left};
 
 // One more digit in each check cell: what brings its check row's sum to 0 mod ρ, at ρ^s = power.
 fn add_check_digits(cells: &mut [u8], sums: [usize; 8], radix: usize, power: usize)
     requires { ⌜ (0 < radix) × (length (now cells) ≤ 8) ⌝ }
-    requires { ⌜ ((l : ℕ) → l < length (now cells) → getD (now cells) l 0 + (radix - getD sums l 0 % radix) % radix * power < 256) ⌝ }
-    ensures { λ _. ⌜ now (cells .exit) ≡ tabulate (length (now (cells .entry))) (λ l. getD (now (cells .entry)) l 0 + (radix - getD sums l 0 % radix) % radix * power) ⌝ }
+    requires { ⌜ ((l : ℕ) → l < length (now cells) → completed (now cells) sums radix power l < 256) ⌝ }
+    ensures { λ _. ⌜ left cells ≡ tabulate (length (was cells)) (completed (was cells) sums radix power) ⌝ }
 {
     let mut l: usize = 0;
     while l < cells.len() {
@@ -27,9 +37,9 @@ fn add_check_digits(cells: &mut [u8], sums: [usize; 8], radix: usize, power: usi
 }
 
 // The check cells of a row of n cells, from its k rule cells, digit after digit.
-pub fn write_checks(shape: Shape, row: &mut [u8], columns: &[u8; 255])
-    requires { ⌜ Taken shape × (length (now row) ≡ columnsOf shape) × (now columns ≡ matrixArray shape) ⌝ }
-    ensures { λ _. ⌜ now (row .exit) ≡ encode shape (take (shape .width) (now (row .entry))) ⌝ }
+pub fn write_checks(shape: Shape, row: &mut [u8], matrix: &[u8; 255])
+    requires { ⌜ Taken shape × (length (now row) ≡ columnsOf shape) × (now matrix ≡ matrixArray shape) ⌝ }
+    ensures { λ _. ⌜ left row ≡ encode shape (take (shape .width) (was row)) ⌝ }
 {
     let radix = shape.radix;
     let digits = shape.digits;
@@ -38,9 +48,33 @@ pub fn write_checks(shape: Shape, row: &mut [u8], columns: &[u8; 255])
     let mut power: usize = 1;
     let mut s: usize = 0;
     while s < digits {
-        let sums = digit_sums(&row[..width], columns, radix, power);
+        let sums = digit_sums(&row[..width], matrix, radix, power);
         add_check_digits(&mut row[width..], sums, radix, power);
         power = power * radix;
         s += 1;
+    }
+}
+
+// Writes the check cells of a row of n cells from its first k.
+pub fn encode_row(shape: Shape, row: &mut [u8]) -> Outcome
+    ensures { λ r. ⌜ encodeCall shape (was row) ≡ giving (outcomeSays r) [] (left row) ⌝ }
+{
+    match check_shape(shape) {
+        Checked::Refused(number) => Outcome::Refused(number),
+        Checked::Taken(sizes) => {
+            let levels = sizes.levels;
+            let checks = sizes.checks;
+            let columns = sizes.columns;
+            let width = shape.width;
+            if row.len() != columns {
+                return Outcome::Refused(6);
+            }
+            if !all_below(&row[..width], levels) {
+                return Outcome::Refused(8);
+            }
+            let matrix = matrix_of(shape, checks);
+            write_checks(shape, row, &matrix);
+            Outcome::Done
+        }
     }
 }

@@ -1,6 +1,8 @@
 // The lower part of the sorting head's library: the comparator of an analog content-addressable memory
-// (a-CAM) and the encoder of its check cells, over the check matrix.
+// (a-CAM), its check matrix and the encoder of its check cells.
 pub mod compare;
 pub mod encode;
+pub mod matrix;
+pub mod order;
 pub mod sound;
 mod sums;

@@ -1,7 +1,7 @@
 // The test of a row for soundness: whether it is a codeword.
 use super::sums::digit_sums;
-use limits::byte::wide;
 use parity::Shape;
+use shape::byte::wide;
 ghost use mathlib.Core.Path.{_≡_};
 ghost use Prim.Native.Nat.{_%_, _≤_, _<_};
 ghost use lib.Dec.{eqb, ltb};
@@ -10,11 +10,12 @@ ghost use Rattle.parity.specs.Lists.{every, everyTo};
 ghost use Rattle.parity.specs.Shape.{levels as levelsOf, checks as checksOf, columns as columnsOf};
 ghost use Rattle.parity.specs.Codeword.{isCodeword};
 ghost use Rattle.parity.specs.Questions.{Taken};
-ghost use Rattle.matrix.specs.Matrices.{matrixArray};
+ghost use Rattle.acam.specs.Matrices.{matrixArray};
+ghost use Rattle.shape.specs.Lent.{was};
 
 // Whether every byte is below a bound.
 pub fn all_below(bytes: &[u8], bound: usize) -> bool
-    ensures { λ r. ⌜ r ≡ every (λ v. ltb v bound) (now (bytes .entry)) ⌝ }
+    ensures { λ r. ⌜ r ≡ every (λ v. ltb v bound) (was bytes) ⌝ }
 {
     let mut j: usize = 0;
     while j < bytes.len() {
@@ -42,10 +43,10 @@ fn all_balanced(sums: [usize; 8], checks: usize, radix: usize) -> bool
 }
 
 // Whether a row of n bytes, any bytes, is sound.
-pub fn is_sound(shape: Shape, checks: usize, levels: usize, row: &[u8], columns: &[u8; 255]) -> bool
+pub fn is_sound(shape: Shape, checks: usize, levels: usize, row: &[u8], matrix: &[u8; 255]) -> bool
     requires { ⌜ Taken shape × (checks ≡ checksOf shape) × (levels ≡ levelsOf shape) ⌝ }
-    requires { ⌜ (length (now row) ≡ columnsOf shape) × (now columns ≡ matrixArray shape) ⌝ }
-    ensures { λ r. ⌜ r ≡ isCodeword shape (now (row .entry)) ⌝ }
+    requires { ⌜ (length (now row) ≡ columnsOf shape) × (now matrix ≡ matrixArray shape) ⌝ }
+    ensures { λ r. ⌜ r ≡ isCodeword shape (was row) ⌝ }
 {
     let radix = shape.radix;
     let digits = shape.digits;
@@ -55,7 +56,7 @@ pub fn is_sound(shape: Shape, checks: usize, levels: usize, row: &[u8], columns:
     let mut power: usize = 1;
     let mut s: usize = 0;
     while s < digits {
-        let sums = digit_sums(row, columns, radix, power);
+        let sums = digit_sums(row, matrix, radix, power);
         if !all_balanced(sums, checks, radix) {
             return false;
         }

@@ -2,15 +2,16 @@
 // The sums are of 16 bits, and the products of 32, so that the compiler works on many cells at once.
 ghost use mathlib.Core.Path.{_≡_};
 ghost use Prim.Native.Nat.{ℕ, _+_, _*_, _/_, _%_, _≤_, _<_};
-ghost use lib.ListN.{length, getD, take};
+ghost use lib.ListN.{length, getD};
 ghost use Rattle.parity.specs.Lists.{tabulate};
 ghost use Rattle.parity.specs.Matrix.{bit};
-ghost use Rattle.parity.proofs.Sums.{checkSum};
+ghost use Rattle.shape.specs.Lent.{was, left};
+ghost use Rattle.acam.specs.Digits.{digitSums};
 
 // A digit added to the sum of each check row that its column has a one in.
 fn add_digit(sums: &mut [u16; 8], column: u8, digit: u16)
     requires { ⌜ (length (now sums) ≡ 8) × ((l : ℕ) → l < 8 → getD (now sums) l 0 + digit < 65536) ⌝ }
-    ensures { λ _. ⌜ now (sums .exit) ≡ tabulate 8 (λ l. getD (now (sums .entry)) l 0 + bit l column * digit) ⌝ }
+    ensures { λ _. ⌜ left sums ≡ tabulate 8 (λ l. getD (was sums) l 0 + bit l column * digit) ⌝ }
 {
     let mut rest = column as u16;
     let mut l: usize = 0;
@@ -45,10 +46,10 @@ fn widened(sums: [u16; 8]) -> [usize; 8]
 }
 
 // For each check row, the digits s of the cells whose columns have a one there, where power is ρ^s.
-pub(crate) fn digit_sums(cells: &[u8], columns: &[u8], radix: usize, power: usize) -> [usize; 8]
+pub(crate) fn digit_sums(cells: &[u8], matrix: &[u8], radix: usize, power: usize) -> [usize; 8]
     requires { ⌜ ((0 < radix) × (radix ≤ 256)) × ((0 < power) × (power ≤ 256)) ⌝ }
-    requires { ⌜ (length (now cells) ≤ length (now columns)) × (length (now columns) ≤ 255) ⌝ }
-    ensures { λ r. ⌜ r ≡ tabulate 8 (λ l. checkSum (λ v. v / power % radix) l (take (length (now (cells .entry))) (now (columns .entry))) (now (cells .entry))) ⌝ }
+    requires { ⌜ (length (now cells) ≤ length (now matrix)) × (length (now matrix) ≤ 255) ⌝ }
+    ensures { λ r. ⌜ r ≡ digitSums (was cells) (was matrix) radix power ⌝ }
 {
     let by_power = (65536 / power + 1) as u32;
     let by_radix = (65536 / radix + 1) as u32;
@@ -58,7 +59,7 @@ pub(crate) fn digit_sums(cells: &[u8], columns: &[u8], radix: usize, power: usiz
     while j < cells.len() {
         let high = quotient(cells[j] as u32, by_power);
         let digit = (high - quotient(high, by_radix) * base) as u16;
-        add_digit(&mut sums, columns[j], digit);
+        add_digit(&mut sums, matrix[j], digit);
         j += 1;
     }
     widened(sums)

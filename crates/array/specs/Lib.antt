@@ -1,3 +1,2 @@
--- What the calls on an array give that need no cycle record, each as one definition.
-pub mod Arrays
-pub mod Answers
+-- What a reader has to believe of the calls on an array that have no cycle record, each as one definition.
+pub mod Calls

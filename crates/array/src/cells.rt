@@ -1,54 +1,32 @@
-// The cells of an array: their number, and one row of them.
+// The calls that look at one row of an array: sound and read.
+use acam::matrix::matrix_of;
 use acam::sound::is_sound;
-use limits::answer::Outcome;
-use limits::answer::Verdict;
-use limits::byte::copy;
-use limits::shape::Checked;
-use limits::shape::check_shape;
-use matrix::columns::columns_of;
+use array_memory::questions::check_row;
 use parity::Shape;
+use shape::answer::Outcome;
+use shape::answer::Verdict;
+use shape::byte::copy;
+use shape::sizes::Checked;
 ghost use mathlib.Core.Path.{_≡_};
-ghost use mathlib.Core.List.{_++_, _∷_, []};
-ghost use Rattle.parity.specs.Questions.{firstNo, shapeQuestions, lengthQuestion};
-ghost use Rattle.limits.specs.Shapes.{checkedBy, sizesOf};
-ghost use Rattle.array.specs.Arrays.{cellCount};
-ghost use Rattle.array.specs.Answers.{soundAnswer, readOutcome, readCells};
-
-// Questions 1 to 5, and 6 on the cells.
-pub fn check_cells(shape: Shape, lent: usize) -> Checked
-    ensures { λ r. ⌜ r ≡ checkedBy (firstNo (shapeQuestions shape ++ lengthQuestion lent (cellCount shape) ∷ [])) (sizesOf shape) ⌝ }
-{
-    match check_shape(shape) {
-        Checked::Refused(number) => Checked::Refused(number),
-        Checked::Taken(sizes) => {
-            let columns = sizes.columns;
-            let rows = shape.rows;
-            if lent != rows * columns {
-                return Checked::Refused(6);
-            }
-            Checked::Taken(sizes)
-        }
-    }
-}
+ghost use Rattle.shape.specs.Lent.{was, left};
+ghost use Rattle.shape.specs.Answers.{verdictSays, outcomeSays, giving};
+ghost use Rattle.array_memory.specs.Memory.{Memory, withCells};
+ghost use Rattle.array.specs.Calls.{soundCall, readCall};
 
 // Sound: whether a row of the array is sound.
 pub fn sound(shape: Shape, cells: &[u8], row: usize) -> Verdict
-    ensures { λ r. ⌜ r ≡ soundAnswer shape (now (cells .entry)) row ⌝ }
+    ensures { λ r. ⌜ ((mem : Memory) → soundCall shape (withCells (was cells) mem) row ≡ verdictSays r) ⌝ }
 {
-    match check_cells(shape, cells.len()) {
+    match check_row(shape, cells.len(), shape.width, row) {
         Checked::Refused(number) => Verdict::Refused(number),
         Checked::Taken(sizes) => {
             let levels = sizes.levels;
             let checks = sizes.checks;
-            let count = sizes.columns;
-            let rows = shape.rows;
-            if rows <= row {
-                return Verdict::Refused(7);
-            }
-            let start = row * count;
-            let end = start + count;
-            let columns = columns_of(shape, checks);
-            if is_sound(shape, checks, levels, &cells[start..end], &columns) {
+            let columns = sizes.columns;
+            let start = row * columns;
+            let end = start + columns;
+            let matrix = matrix_of(shape, checks);
+            if is_sound(shape, checks, levels, &cells[start..end], &matrix) {
                 return Verdict::Yes;
             }
             Verdict::No
@@ -58,21 +36,14 @@ pub fn sound(shape: Shape, cells: &[u8], row: usize) -> Verdict
 
 // Read: copies the k rule cells of a row out.
 pub fn read(shape: Shape, cells: &[u8], row: usize, out: &mut [u8]) -> Outcome
-    ensures answered { λ r. ⌜ r ≡ readOutcome shape (now (cells .entry)) row (now (out .entry)) ⌝ }
-    ensures written { λ r. ⌜ now (out .exit) ≡ readCells shape (now (cells .entry)) row (now (out .entry)) ⌝ }
+    ensures { λ r. ⌜ ((mem : Memory) → readCall shape (withCells (was cells) mem) row (was out)
+        ≡ giving (outcomeSays r) (left out) (withCells (was cells) mem)) ⌝ }
 {
-    match check_cells(shape, cells.len()) {
+    match check_row(shape, cells.len(), out.len(), row) {
         Checked::Refused(number) => Outcome::Refused(number),
         Checked::Taken(sizes) => {
             let columns = sizes.columns;
             let width = shape.width;
-            let rows = shape.rows;
-            if out.len() != width {
-                return Outcome::Refused(6);
-            }
-            if rows <= row {
-                return Outcome::Refused(7);
-            }
             let start = row * columns;
             let end = start + width;
             copy(&cells[start..end], out);

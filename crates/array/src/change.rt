@@ -1,82 +1,59 @@
 // Changes of the cells: the writing of a row, and drift.
-use super::cells::check_cells;
 use acam::encode::write_checks;
-use acam::sound::all_below;
-use limits::answer::Outcome;
-use limits::byte::copy;
-use limits::byte::wide;
-use limits::shape::Checked;
-use matrix::columns::columns_of;
+use acam::matrix::matrix_of;
+use array_memory::questions::check_drift;
 use parity::Shape;
+use shape::answer::Outcome;
+use shape::byte::copy;
+use shape::sizes::Checked;
+use shape::sizes::Sizes;
 ghost use mathlib.Core.Path.{_≡_};
+ghost use mathlib.Core.List.{[]};
 ghost use lib.ListN.{length};
 ghost use Rattle.parity.specs.Shape.{checks as checksOf, columns as columnsOf};
 ghost use Rattle.parity.specs.Codeword.{encode};
-ghost use Rattle.parity.specs.Questions.{Taken};
-ghost use Rattle.array.specs.Arrays.{driftCells, programCells};
-ghost use Rattle.array.specs.Answers.{programOutcome, driftOutcome};
+ghost use Rattle.parity.specs.Questions.{Taken, firstNo};
+ghost use Rattle.shape.specs.Lent.{was, left};
+ghost use Rattle.shape.specs.Shapes.{sizesOf};
+ghost use Rattle.shape.specs.Answers.{outcomeSays, giving};
+ghost use Rattle.array_memory.specs.Geometry.{withRow};
+ghost use Rattle.array_memory.specs.Memory.{Memory, withCells};
+ghost use Rattle.array_memory.specs.Questions.{cellsQuestions, programArguments};
+ghost use Rattle.array.specs.Calls.{driftCall};
 
 // Writes k levels into a lent row of n cells, and its check cells.
 fn program_row(shape: Shape, checks: usize, row: &mut [u8], given: &[u8])
     requires { ⌜ Taken shape × (checks ≡ checksOf shape) × (length (now row) ≡ columnsOf shape) × (length (now given) ≡ shape .width) ⌝ }
-    ensures { λ _. ⌜ now (row .exit) ≡ encode shape (now (given .entry)) ⌝ }
+    ensures { λ _. ⌜ left row ≡ encode shape (was given) ⌝ }
 {
     let width = shape.width;
     copy(given, &mut row[..width]);
-    let columns = columns_of(shape, checks);
-    write_checks(shape, row, &columns);
+    let matrix = matrix_of(shape, checks);
+    write_checks(shape, row, &matrix);
 }
 
-// The writing of one row: what programming does to the cells.
-pub fn write_row(shape: Shape, cells: &mut [u8], row: usize, given: &[u8]) -> Outcome
-    ensures answered { λ r. ⌜ r ≡ programOutcome shape (now (cells .entry)) row (now (given .entry)) ⌝ }
-    ensures written { λ r. ⌜ now (cells .exit) ≡ programCells shape (now (cells .entry)) row (now (given .entry)) ⌝ }
+// What programming does to the cells, for a call that has passed its questions. It leaves the record as it is, so it
+// is for the crates above and not for callers: they have `Cycle::program`.
+pub fn write_row(shape: Shape, sizes: Sizes, cells: &mut [u8], row: usize, given: &[u8])
+    requires { ⌜ (firstNo (cellsQuestions shape (length (now cells)) (programArguments shape row (now given))) ≡ 0) × (sizes ≡ sizesOf shape) ⌝ }
+    ensures { λ _. ⌜ left cells ≡ withRow (columnsOf shape) (was cells) row (encode shape (was given)) ⌝ }
 {
-    match check_cells(shape, cells.len()) {
-        Checked::Refused(number) => Outcome::Refused(number),
-        Checked::Taken(sizes) => {
-            let levels = sizes.levels;
-            let checks = sizes.checks;
-            let columns = sizes.columns;
-            let width = shape.width;
-            let rows = shape.rows;
-            if given.len() != width {
-                return Outcome::Refused(6);
-            }
-            if rows <= row {
-                return Outcome::Refused(7);
-            }
-            if !all_below(given, levels) {
-                return Outcome::Refused(8);
-            }
-            let start = row * columns;
-            let end = start + columns;
-            program_row(shape, checks, &mut cells[start..end], given);
-            Outcome::Done
-        }
-    }
+    let checks = sizes.checks;
+    let columns = sizes.columns;
+    let start = row * columns;
+    let end = start + columns;
+    program_row(shape, checks, &mut cells[start..end], given);
 }
 
 // Drift: one cell changes to a level, and nothing else.
 pub fn drift(shape: Shape, cells: &mut [u8], row: usize, column: usize, level: u8) -> Outcome
-    ensures answered { λ r. ⌜ r ≡ driftOutcome shape (now (cells .entry)) row column level ⌝ }
-    ensures written { λ r. ⌜ now (cells .exit) ≡ driftCells shape (now (cells .entry)) row column level ⌝ }
+    ensures { λ r. ⌜ ((mem : Memory) → driftCall shape (withCells (was cells) mem) row column level
+        ≡ giving (outcomeSays r) [] (withCells (left cells) mem)) ⌝ }
 {
-    match check_cells(shape, cells.len()) {
+    match check_drift(shape, cells.len(), row, column, level) {
         Checked::Refused(number) => Outcome::Refused(number),
         Checked::Taken(sizes) => {
-            let levels = sizes.levels;
             let columns = sizes.columns;
-            let rows = shape.rows;
-            if rows <= row {
-                return Outcome::Refused(7);
-            }
-            if columns <= column {
-                return Outcome::Refused(7);
-            }
-            if levels <= wide(level) {
-                return Outcome::Refused(8);
-            }
             let at = row * columns + column;
             cells[at] = level;
             Outcome::Done

@@ -1,4 +1,3 @@
-// The calls on the cells of an array that need no cycle record: sound, read, the writing of a row, and drift.
-// Cells lie row after row. The definitions of lookups are here too; their code is in the crate above.
+// The calls on an array that need no cycle record: sound, read and drift; and, for the crates above, the writing of a row.
 pub mod cells;
 pub mod change;

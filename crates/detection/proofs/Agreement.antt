@@ -13,15 +13,18 @@ use Rattle.parity.specs.Questions.{Taken}
 use Rattle.parity.specs.declared.Shape.{Shape}
 use Rattle.parity.proofs.ListLaws.{Each}
 use Rattle.schedule.proofs.All.{All, all-at, all-turn}
-use Rattle.array.specs.Arrays.{cellCount, rowAt}
-use Rattle.scrub.specs.Record.{idle, cycleAt}
-use Rattle.scrub.specs.Calls.{Sized, State, fresh}
+use Rattle.array_memory.specs.Geometry.{rowAt}
+use Rattle.array_memory.specs.Memory.{Sized, cellCount}
+use Rattle.cycle.specs.Calls.{State, zeroRows, cleared, fresh}
+use Rattle.cycle.specs.declared.Cycle.{Cycle}
+use Rattle.cycle.specs.declared.Phase.the-variants.{Idle}
+use Rattle.cycle.proofs.CycleRecord.{Stands}
 use Rattle.detection.specs.Log.{Course, none, open-cycle, ended, Log, blank}
 use Rattle.detection.specs.Claims.{flat}
 use Rattle.detection.proofs.Elements.{all-replicate}
 use Rattle.detection.proofs.Rows.{Wide, flat-each, flat-replicate, flat-length, flat-row}
 use Rattle.detection.proofs.ZeroRow.{zero-row}
-use Rattle.scrub.proofs.Steps.{Lines}
+use Rattle.cycle.proofs.Steps.{Lines}
 
 -- a row as it can stand: n cells, all below q
 pub record Cells (s : Shape) (row : List ℕ) : Type 0 where
@@ -39,21 +42,27 @@ pub record RowsAgree (s : Shape) (cells : List ℕ) (written standing : List (Li
   pub stands : All (Cells s) standing
   pub laid : cells ≡ flat standing
 
--- the record is that of c taken steps, and so are the lines where no cell has drifted since the start
+-- the record stands at the count of c taken steps, and so do the lines where no cell has drifted since the start
 pub record Running (s : Shape) (st : State) (c : ℕ) (mark : Bool) : Type 0 where
-  pub cycle : st .cycle ≡ cycleAt s c
+  pub stands : Stands s c (st .cycle)
   pub lines : mark ≡ false → Lines s st c
 
-abbrev pub Follows : Shape → State → Course → ℕ → Bool → Type 0
-Follows s st none c mark = (st .cycle ≡ idle) × (c ≡ 0)
-Follows s st open-cycle c mark = Running s st c mark × (c < lookups s)
-Follows s st ended c mark = Running s st c mark × (c ≡ lookups s)
+-- the record is idle with count 0
+pub record Resting (cycle : Cycle) : Type 0 where
+  pub phase : cycle .phase ≡ Idle
+  pub count : cycle .count ≡ 0
+
+-- what the log's cycle says of the state
+abbrev pub InCourse : Shape → State → Course → ℕ → Bool → Type 0
+InCourse s st none c mark = Resting (st .cycle) × (c ≡ 0)
+InCourse s st open-cycle c mark = Running s st c mark × (c < lookups s)
+InCourse s st ended c mark = Running s st c mark × (c ≡ lookups s)
 
 pub record Agrees (s : Shape) (st : State) (l : Log) : Type 0 where
-  pub rows : RowsAgree s (st .cells) (l .written) (l .standing)
-  pub counters : length (st .counters) ≡ s .rows
-  pub flags : length (st .flags) ≡ s .rows
-  pub course : Follows s st (l .course) (l .count) (l .mark)
+  pub rows : RowsAgree s (st .memory .cells) (l .written) (l .standing)
+  pub counters : length (st .memory .counters) ≡ s .rows
+  pub flags : length (st .memory .flags) ≡ s .rows
+  pub course : InCourse s st (l .course) (l .count) (l .mark)
 
 module _ (s : Shape) (cells : List ℕ) (written standing : List (List ℕ)) (r : RowsAgree s cells written standing) where
   pub wide : Wide (columns s) standing
@@ -77,16 +86,16 @@ module _ (s : Shape) (cells : List ℕ) (written standing : List (List ℕ)) (r 
     pub standing-row : Cells s (getD standing i [])
     standing-row = all-at (Cells s) standing (r .stands) i (rw (r .standingCount) h) []
 
-    pub row-stands : rowAt s cells i ≡ getD standing i []
+    pub row-stands : rowAt (columns s) cells i ≡ getD standing i []
     unfolding rowAt
     row-stands =
         ap (λ held. take (columns s) (drop (i * columns s) held)) (r .laid) ∙ flat-row (columns s) standing i wide (rw (r .standingCount) h)
 
-pub sized : (s : Shape) (st : State) (l : Log) → Agrees s st l → Sized s st
+pub sized : (s : Shape) (st : State) (l : Log) → Agrees s st l → Sized s (st .memory)
 sized s st l a = record { cells = cells-sized s _ _ _ (a .rows); counters = a .counters; flags = a .flags }
 
 pub agrees-fresh : (s : Shape) → Taken s → Agrees s (fresh s) (blank s)
-unfolding fresh blank cellCount
+unfolding fresh cleared zeroRows blank cellCount
 agrees-fresh s t =
     record {
       rows =
@@ -99,5 +108,5 @@ agrees-fresh s t =
           };
       counters = length-replicate (s .rows) 0;
       flags = length-replicate (s .rows) 0;
-      course = (refl, refl);
+      course = (record { phase = refl; count = refl }, refl);
     }

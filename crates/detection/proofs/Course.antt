@@ -9,37 +9,41 @@ use borrow.Author.Tests.{eq-eqb}
 use Rattle.parity.specs.Matrix.{lookups}
 use Rattle.parity.specs.Questions.{Taken}
 use Rattle.parity.specs.declared.Shape.{Shape}
-use Rattle.scrub.specs.Record.{cycleAt, isNext}
-use Rattle.scrub.specs.Calls.{Sized, State, fresh, started, stepped}
-use Rattle.scrub.specs.Run.{start, step, result, runFrom, run}
+use Rattle.cycle.specs.Record.{cycleAt, isNext}
+use Rattle.cycle.specs.Calls.{State, zeroRows, fresh, started, steppedMemory, stepped}
+use Rattle.array_memory.specs.Memory.{Sized}
+use Rattle.cycle.specs.Run.{start, step, after, runFrom, run}
 use Rattle.detection.specs.Claims.{stepsWith, Buffers, CourseClaim, QuestionNineClaim}
-use Rattle.scrub.proofs.CycleRecord.{record-count, record-open, record-complete, next-open, next-record}
-use Rattle.scrub.proofs.Steps.{fresh-sized, Lines, started-lines, started-sized, start-state, stepped-lines, stepped-cycle, stepped-sized, step-state}
+use Rattle.cycle.proofs.CycleRecord.{record-count, record-open, record-complete, next-open, next-record}
+use Rattle.cycle.proofs.Steps.{fresh-sized, Lines, started-lines, started-sized, start-state, stepped-lines, stepped-cycle, stepped-sized, step-state}
 
 -- a start and c taken steps have been made on these cells
-pub record Underway (s : Shape) (cells : List ℕ) (c : ℕ) (st : State) : Type 0 where
-  pub still : st .cells ≡ cells
-  pub sized : Sized s st
+pub record Underway (s : Shape) (held : List ℕ) (c : ℕ) (st : State) : Type 0 where
+  pub still : st .memory .cells ≡ held
+  pub sized : Sized s (st .memory)
   pub cycle : st .cycle ≡ cycleAt s c
   pub lines : Lines s st c
 
+count : (s : Shape) (c : ℕ) (st : State) {cells : List ℕ} → Underway s cells c st → st .cycle .count ≡ c
+count s c st u = ap (λ r. r .count) (u .cycle) ∙ record-count s c
+
 module _ (s : Shape) (t : Taken s) where
-  underway-start : (st : State) → Sized s st → Underway s (st .cells) 0 (result s st start .state)
-  unfolding started
+  underway-start : (st : State) → Sized s (st .memory) → Underway s (st .memory .cells) 0 (after s st start)
+  unfolding started zeroRows
   underway-start st z =
       rw (start-state s st z t) (record { still = refl; sized = started-sized s st z; cycle = refl; lines = started-lines s st })
 
   underway-step :
       (cells : List ℕ) (c : ℕ) (st : State) (matches : List ℕ) → length matches ≡ s .rows → c < lookups s → Underway s cells c st
-      → Underway s cells (suc c) (result s st (step matches) .state)
-  unfolding stepped
+      → Underway s cells (suc c) (after s st (step matches))
+  unfolding stepped steppedMemory
   underway-step cells c st matches l h u =
       rw (step-state s st (u .sized) t matches, eq-eqb _ _ l, ap (isNext s) (u .cycle) ∙ next-open s t c h)
       (record {
         still = u .still;
         sized = stepped-sized s st (u .sized);
-        cycle = stepped-cycle s st c (u .cycle);
-        lines = stepped-lines s st t c h (u .cycle) (u .lines);
+        cycle = stepped-cycle s st c (count s c st u);
+        lines = stepped-lines s st t c h (count s c st u) (u .lines);
       })
 
   underway-steps :
@@ -49,14 +53,14 @@ module _ (s : Shape) (t : Taken s) where
   underway-steps cells (matches ∷ buffers) c st sized h u =
       let next : c + suc (length buffers) ≡ suc c + length buffers = omega arith in
       rw next
-      (underway-steps cells buffers (suc c) (result s st (step matches) .state) (sized .1) (omega arith)
+      (underway-steps cells buffers (suc c) (after s st (step matches)) (sized .1) (omega arith)
       (underway-step cells c st matches (sized .0) (omega arith) u))
 
   pub underway :
-      (st : State) → Sized s st → (buffers : List (List ℕ)) → Buffers s buffers → length buffers ≤ lookups s
-      → Underway s (st .cells) (length buffers) (runFrom s st (start ∷ stepsWith buffers))
+      (st : State) → Sized s (st .memory) → (buffers : List (List ℕ)) → Buffers s buffers → length buffers ≤ lookups s
+      → Underway s (st .memory .cells) (length buffers) (runFrom s st (start ∷ stepsWith buffers))
   underway st z buffers sized h =
-      rw zero-add at (underway-steps (st .cells) buffers 0 (result s st start .state) sized (omega arith) (underway-start st z))
+      rw zero-add at (underway-steps (st .memory .cells) buffers 0 (after s st start) sized (omega arith) (underway-start st z))
 
 pub courseClaim : CourseClaim
 courseClaim s t st z buffers sized h = (

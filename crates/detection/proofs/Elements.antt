@@ -1,16 +1,14 @@
 -- Lists where one element is set, and where all are alike. Assumes nothing.
-use mathlib.Core.Path.{_≡_, refl, sym, ap, _∙_}
+use mathlib.Core.Path.{_≡_, refl, ap, _∙_}
 use mathlib.Core.Logic.{_≢_}
 use mathlib.Core.Bool.{Bool, true, false}
 use mathlib.Core.List.{List, [], _∷_, _++_}
 use Prim.Native.Nat.{ℕ, zero, suc, _+_, _<_}
 use native.Mathlib.Nat.{zero-add, suc-add}
 use lib.Dec.{eqb}
-use lib.ListN.{length, getD, set, replicate, length-replicate, getD-replicate}
-use lib.Seq.{getD-set-same, getD-set-other, ext-getD}
+use lib.ListN.{length, getD, set, replicate}
+use lib.Seq.{getD-set-same, getD-set-other}
 use borrow.Author.Tests.{eqb-true, eqb-false}
-use Rattle.parity.specs.Lists.{tabulate}
-use Rattle.parity.proofs.ListLaws.{length-tabulate, getD-tabulate}
 use Rattle.schedule.proofs.All.{All}
 
 module _ {ℓ} {A : Type ℓ} where
@@ -36,10 +34,3 @@ module _ {ℓ} {A : Type ℓ} where
   set-append-add [] ys i a = ap (λ k. set ys k a) (zero-add i)
   set-append-add (x ∷ xs) ys i a =
       ap (λ k. set (x ∷ xs ++ ys) k a) (suc-add (length xs) i) ∙ ap (λ (r : List A). x ∷ r) (set-append-add xs ys i a)
-
-  pub tabulate-same : (n : ℕ) (v : A) (f : ℕ → A) → ((i : ℕ) → i < n → f i ≡ v) → tabulate n f ≡ replicate n v
-  tabulate-same n v f h =
-      ext-getD v (tabulate n f) (replicate n v) (length-tabulate n f ∙ sym (length-replicate n v))
-      (λ i l.
-      let lt : i < n = rw length-tabulate at l in
-      getD-tabulate n f i v lt ∙ h i lt ∙ sym (getD-replicate n i v v lt))

@@ -1,9 +1,9 @@
 -- Every call, taken or refused, keeps the agreement of state and log; so does every list of calls. Assumes nothing.
-use mathlib.Core.Path.{_≡_, refl, sym, ap, _∙_}
+use mathlib.Core.Path.{_≡_, refl, sym, _∙_}
 use mathlib.Core.Logic.{_≢_}
 use mathlib.Core.Bool.{Bool, true, false, cond, _&&_, true≢false}
-use mathlib.Core.List.{List, [], _∷_}
-use Prim.Native.Nat.{ℕ, suc, _+_, _*_, _<_}
+use mathlib.Core.List.{List, []}
+use Prim.Native.Nat.{ℕ, zero, suc, _+_, _*_, _<_}
 use native.Mathlib.Nat.{le-of-eq}
 use native.Mathlib.Omega.{arith}
 use lib.Dec.{eqb}
@@ -12,28 +12,35 @@ use borrow.Author.Tests.{eqb-true, eqb-false}
 use Rattle.parity.specs.Shape.{levels, columns}
 use Rattle.parity.specs.Matrix.{lookups}
 use Rattle.parity.specs.Codeword.{Codeword, encode}
-use Rattle.parity.specs.Questions.{Taken, firstNo}
+use Rattle.parity.specs.Questions.{Taken, firstNo, ifTaken}
 use Rattle.parity.specs.declared.Shape.{Shape}
 use Rattle.parity.proofs.Encoding.{encodedClaim}
-use Rattle.array.specs.Arrays.{withRow, ifTaken, programArguments, programCells, driftArguments, driftCells}
-use Rattle.scrub.specs.Record.{idle, isNext}
-use Rattle.scrub.specs.Calls.{Sized, State, clearCall, programCall, driftCall, lookupCall, started, stepped}
-use Rattle.scrub.specs.Run.{Call, clear, start, program, drift, lookup, step, result, runFrom}
+use Rattle.shape.specs.Answers.{accepted, refused, giving, calling}
+use Rattle.shape.proofs.Calling.{call-done}
+use Rattle.array_memory.specs.Geometry.{withRow}
+use Rattle.array_memory.specs.Memory.{Memory, Sized, withCells}
+use Rattle.array_memory.specs.Questions.{cellsQuestions, programArguments, driftArguments}
+use Rattle.array.specs.Calls.{programmed, drifted, driftCall}
+use Rattle.array_memory.proofs.Asked.{Programs, program-reads, Drifts, drift-reads}
+use Rattle.array_lookup.specs.Lookups.{lookupArguments, taskMatches, taskCount, lookupCall}
+use Rattle.cycle.specs.Record.{idle, isNext}
+use Rattle.cycle.specs.Calls.{State, stateOf, zeroRows, cleared, fresh, clearCall, programCall, started, steppedMemory, stepped}
+use Rattle.cycle.specs.Run.{Call, clear, start, program, drift, lookup, step, after, runFrom}
+use Rattle.cycle.proofs.Asked.{clear-asked, cells-asked}
+use Rattle.cycle.proofs.CycleRecord.{lookups-some, stands-at, stands-next, next-idle, next-open, next-complete}
+use Rattle.cycle.proofs.Runs.{run-keeps}
+use Rattle.cycle.proofs.Steps.{started-lines, started-sized, start-state, stepped-lines, stepped-cycle, stepped-sized, step-state}
 use Rattle.detection.specs.Log.{Course, none, open-cycle, ended, Log, logProgram, logDrift, logStep, whileOpen, logCall, logFrom}
-use Rattle.scrub.specs.declared.cycle.Cycle.{Cycle}
 use Rattle.detection.proofs.Elements.{all-set, at-set}
 use Rattle.detection.proofs.Rows.{flat-with, flat-set}
-use Rattle.scrub.proofs.Asked.{clear-asked, program-asked, drift-asked, Programs, program-reads, Drifts, drift-reads}
-use Rattle.scrub.proofs.CycleRecord.{lookups-some, next-idle, next-open, next-complete}
-use Rattle.scrub.proofs.Steps.{started-lines, started-sized, start-state, stepped-lines, stepped-cycle, stepped-sized, step-state}
-use Rattle.detection.proofs.Agreement.{Cells, codeword-cells, RowsAgree, Running, Follows, Agrees, wide, standing-row, sized, agrees-fresh}
+use Rattle.detection.proofs.Agreement.{Cells, codeword-cells, RowsAgree, Running, InCourse, Agrees, wide, standing-row, sized, agrees-fresh}
 
 -- ---- the rows
 
 module _ (s : Shape) (cells : List ℕ) (written standing : List (List ℕ)) (r : RowsAgree s cells written standing) where
   rows-programmed :
       Taken s → (row : ℕ) (given : List ℕ) → Programs s row given
-      → RowsAgree s (withRow s cells row (encode s given)) (set written row (encode s given)) (set standing row (encode s given))
+      → RowsAgree s (withRow (columns s) cells row (encode s given)) (set written row (encode s given)) (set standing row (encode s given))
   unfolding withRow
   rows-programmed t row given p =
       let code : Codeword s (encode s given) = encodedClaim s t given (p .sized) (p .below) in
@@ -66,83 +73,102 @@ module _ (s : Shape) (cells : List ℕ) (written standing : List (List ℕ)) (r 
 
 -- ---- the calls
 
--- the state with other cells and another record
-abbrev changed : State → List ℕ → Cycle → State
-changed st cells cycle = record { cells = cells; counters = st .counters; flags = st .flags; cycle = cycle }
-
 -- a cell has drifted, so nothing is said of the lines
 marked :
-    (s : Shape) (st : State) (cells : List ℕ) (k : Course) (c : ℕ) (mark : Bool) → Follows s st k c mark
-    → Follows s (changed st cells (st .cycle)) k c true
-marked s st cells none c mark f = f
-marked s st cells open-cycle c mark f = (record { cycle = f .0 .cycle; lines = λ off. absurd (true≢false off) }, f .1)
-marked s st cells ended c mark f = (record { cycle = f .0 .cycle; lines = λ off. absurd (true≢false off) }, f .1)
+    (s : Shape) (st : State) (mem : Memory) (k : Course) (c : ℕ) (mark : Bool) → InCourse s st k c mark → InCourse s (stateOf mem (st .cycle)) k c true
+marked s st mem none c mark f = f
+marked s st mem open-cycle c mark f = (record { stands = f .0 .stands; lines = λ off. absurd (true≢false off) }, f .1)
+marked s st mem ended c mark f = (record { stands = f .0 .stands; lines = λ off. absurd (true≢false off) }, f .1)
 
 module _ (s : Shape) (t : Taken s) (st : State) (l : Log) (a : Agrees s st l) where
-  agrees-clear : Agrees s (result s st clear .state) (logCall s l clear)
-  unfolding clearCall
-  agrees-clear = rw (clear-asked s t st (sized s st l a)) (agrees-fresh s t)
+  agrees-clear : Agrees s (after s st clear) (logCall s l clear)
+  unfolding clearCall fresh cleared zeroRows
+  agrees-clear = rw (after, call-done _ [] st _ (clear-asked s t st (sized s st l a))) (agrees-fresh s t)
 
-  agrees-start : Agrees s (result s st start .state) (logCall s l start)
-  unfolding started
+  agrees-start : Agrees s (after s st start) (logCall s l start)
+  unfolding started zeroRows
   agrees-start =
-      let z : Sized s (started s st) = started-sized s st (sized s st l a) in
+      let z : Sized s (started s st .memory) = started-sized s st (sized s st l a) in
       rw (start-state s st (sized s st l a) t)
       (record {
         rows = a .rows;
         counters = z .counters;
         flags = z .flags;
-        course = (record { cycle = refl; lines = λ off. started-lines s st }, lookups-some s t);
+        course = (record { stands = stands-at s 0 _ refl; lines = λ off. started-lines s st }, lookups-some s t);
       })
 
-  agrees-program : (row : ℕ) (given : List ℕ) → Agrees s (result s st (program row given) .state) (logCall s l (program row given))
-  unfolding programCall programCells
-  agrees-program row given = rw (program-asked s t st (sized s st l a) row given) (go (eqb (firstNo (programArguments s row given)) 0) refl)
+  agrees-program : (row : ℕ) (given : List ℕ) → Agrees s (after s st (program row given)) (logCall s l (program row given))
+  unfolding programCall calling programmed
+  agrees-program row given = rw (after, cells-asked s t st (sized s st l a) (programArguments s row given)) (go (firstNo (programArguments s row given)) refl)
     where
       go :
-          (b : Bool) → eqb (firstNo (programArguments s row given)) 0 ≡ b
-          → Agrees s (changed st (cond b (withRow s (st .cells) row (encode s given)) (st .cells)) (cond b idle (st .cycle)))
-          (cond b (logProgram s row given l) l)
-      go true e =
+          (n : ℕ) → firstNo (programArguments s row given) ≡ n
+          → Agrees s
+          (ifTaken n
+          (giving (accepted 0) [] (stateOf (withCells (withRow (columns s) (st .memory .cells) row (encode s given)) (st .memory)) idle))
+          (giving (refused 0 n) [] st) .state)
+          (ifTaken n (logProgram s row given l) l)
+      go zero e =
           record {
-            rows = rows-programmed s _ _ _ (a .rows) t row given (program-reads s row given (eqb-true _ 0 e));
+            rows = rows-programmed s _ _ _ (a .rows) t row given (program-reads s row given e);
             counters = a .counters;
             flags = a .flags;
-            course = (refl, refl);
+            course = (record { phase = refl; count = refl }, refl);
           }
-      go false e = a
+      go (suc n) e = a
 
-  agrees-drift : (row column level : ℕ) → Agrees s (result s st (drift row column level) .state) (logCall s l (drift row column level))
-  unfolding driftCall driftCells
-  agrees-drift row column level = rw (drift-asked s t st (sized s st l a) row column level) (go (eqb (firstNo (driftArguments s row column level)) 0) refl)
+  agrees-drift : (row column level : ℕ) → Agrees s (after s st (drift row column level)) (logCall s l (drift row column level))
+  unfolding driftCall calling drifted
+  agrees-drift row column level =
+      rw (after, cells-asked s t st (sized s st l a) (driftArguments s row column level)) (go (firstNo (driftArguments s row column level)) refl)
     where
       go :
-          (b : Bool) → eqb (firstNo (driftArguments s row column level)) 0 ≡ b
-          → Agrees s (changed st (cond b (set (st .cells) (row * columns s + column) level) (st .cells)) (st .cycle))
-          (cond b (logDrift row column level l) l)
-      go true e =
+          (n : ℕ) → firstNo (driftArguments s row column level) ≡ n
+          → Agrees s
+          (stateOf
+          (ifTaken n (giving (accepted 0) [] (withCells (set (st .memory .cells) (row * columns s + column) level) (st .memory)))
+          (giving (refused 0 n) [] (st .memory)) .state)
+          (st .cycle))
+          (ifTaken n (logDrift row column level l) l)
+      go zero e =
           record {
-            rows = rows-drifted s _ _ _ (a .rows) row column level (drift-reads s row column level (eqb-true _ 0 e));
+            rows = rows-drifted s _ _ _ (a .rows) row column level (drift-reads s row column level e);
             counters = a .counters;
             flags = a .flags;
             course = marked s st _ (l .course) (l .count) (l .mark) (a .course);
           }
-      go false e = a
+      go (suc n) e = a
+
+  -- a lookup, taken or refused, leaves the state
+  agrees-lookup : (inputs matches : List ℕ) → Agrees s (after s st (lookup inputs matches)) l
+  unfolding lookupCall calling
+  agrees-lookup inputs matches = go (firstNo (cellsQuestions s (length (st .memory .cells)) (lookupArguments s (length matches) inputs)))
+    where
+      go :
+          (n : ℕ)
+          → Agrees s
+          (stateOf
+          (ifTaken n (giving (accepted (taskCount s (st .memory) inputs)) (taskMatches s (st .memory) inputs) (st .memory))
+          (giving (refused 0 n) matches (st .memory)) .state)
+          (st .cycle))
+          l
+      go zero = a
+      go (suc n) = a
 
   agrees-stepped : Running s st (l .count) (l .mark) → l .count < lookups s → Agrees s (stepped s st) (logStep s l)
-  unfolding stepped
+  unfolding stepped steppedMemory
   agrees-stepped r h =
-      let z : Sized s (stepped s st) = stepped-sized s st (sized s st l a) in
+      let z : Sized s (stepped s st .memory) = stepped-sized s st (sized s st l a) in
       record { rows = a .rows; counters = z .counters; flags = z .flags; course = go (eqb (suc (l .count)) (lookups s)) refl }
     where
       next : Running s (stepped s st) (suc (l .count)) (l .mark)
       next =
           record {
-            cycle = stepped-cycle s st (l .count) (r .cycle);
-            lines = λ off. stepped-lines s st t (l .count) h (r .cycle) (r .lines off);
+            stands = stands-at s (suc (l .count)) _ (stepped-cycle s st (l .count) (r .stands .count));
+            lines = λ off. stepped-lines s st t (l .count) h (r .stands .count) (r .lines off);
           }
 
-      go : (b : Bool) → eqb (suc (l .count)) (lookups s) ≡ b → Follows s (stepped s st) (cond b ended open-cycle) (suc (l .count)) (l .mark)
+      go : (b : Bool) → eqb (suc (l .count)) (lookups s) ≡ b → InCourse s (stepped s st) (cond b ended open-cycle) (suc (l .count)) (l .mark)
       go true e = (next, eqb-true _ _ e)
       go false e =
           let apart : suc (l .count) ≢ lookups s = eqb-false _ _ e in
@@ -150,13 +176,15 @@ module _ (s : Shape) (t : Taken s) (st : State) (l : Log) (a : Agrees s st l) wh
 
   -- the record has a lookup to come exactly where the log's cycle is open
   while-open :
-      (k : Course) → Follows s st k (l .count) (l .mark)
+      (k : Course) → InCourse s st k (l .count) (l .mark)
       → Agrees s (cond (isNext s (st .cycle)) (stepped s st) st) (whileOpen k (logStep s l) l)
-  while-open none f = rw (ap (isNext s) (f .0) ∙ next-idle s) a
-  while-open open-cycle f = rw (ap (isNext s) (f .0 .cycle) ∙ next-open s t (l .count) (f .1)) (agrees-stepped (f .0) (f .1))
-  while-open ended f = rw (ap (isNext s) (f .0 .cycle) ∙ next-complete s t (l .count) (le-of-eq (sym (f .1)))) a
+  while-open none f = rw (next-idle s (st .cycle) (f .0 .phase)) a
+  while-open open-cycle f =
+      rw (stands-next s (l .count) (st .cycle) (f .0 .stands) ∙ next-open s t (l .count) (f .1)) (agrees-stepped (f .0) (f .1))
+  while-open ended f =
+      rw (stands-next s (l .count) (st .cycle) (f .0 .stands) ∙ next-complete s t (l .count) (le-of-eq (sym (f .1)))) a
 
-  agrees-step : (matches : List ℕ) → Agrees s (result s st (step matches) .state) (logCall s l (step matches))
+  agrees-step : (matches : List ℕ) → Agrees s (after s st (step matches)) (logCall s l (step matches))
   agrees-step matches = rw (step-state s st (sized s st l a) t matches) (go (eqb (length matches) (s .rows)))
     where
       go :
@@ -165,16 +193,14 @@ module _ (s : Shape) (t : Taken s) (st : State) (l : Log) (a : Agrees s st l) wh
       go true = while-open (l .course) (a .course)
       go false = a
 
-  agrees-call : (c : Call) → Agrees s (result s st c .state) (logCall s l c)
-  unfolding lookupCall
+  agrees-call : (c : Call) → Agrees s (after s st c) (logCall s l c)
   agrees-call clear = agrees-clear
   agrees-call start = agrees-start
   agrees-call (program row given) = agrees-program row given
   agrees-call (drift row column level) = agrees-drift row column level
-  agrees-call (lookup inputs matches) = a
+  agrees-call (lookup inputs matches) = agrees-lookup inputs matches
   agrees-call (step matches) = agrees-step matches
 
 pub agrees-run :
     (s : Shape) → Taken s → (calls : List Call) (st : State) (l : Log) → Agrees s st l → Agrees s (runFrom s st calls) (logFrom s l calls)
-agrees-run s t [] st l a = a
-agrees-run s t (c ∷ cs) st l a = agrees-run s t cs (result s st c .state) (logCall s l c) (agrees-call s t st l a c)
+agrees-run s t = run-keeps s (logCall s) (Agrees s) (λ st l c a. agrees-call s t st l a c)

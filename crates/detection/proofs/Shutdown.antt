@@ -17,25 +17,24 @@ use Rattle.parity.specs.Matrix.{lookups}
 use Rattle.parity.specs.Codeword.{Codeword, isCodeword, encode}
 use Rattle.parity.specs.Questions.{Taken}
 use Rattle.parity.specs.declared.Shape.{Shape}
+use Rattle.parity.proofs.ListLaws.{tabulate-same, tabulate-constant}
 use Rattle.parity.proofs.CodewordTest.{codeword-test, codeword-passes}
 use Rattle.parity.proofs.Encoding.{encodingClaim}
 use Rattle.parity.proofs.Distance.{distanceClaim}
-use Rattle.scrub.specs.Calls.{State, fresh}
-use Rattle.scrub.specs.Run.{Call, start, program, runFrom, run}
-use Rattle.detection.specs.Log.{ended, Log, blank, logFrom, log}
+use Rattle.cycle.specs.Calls.{State, fresh}
+use Rattle.cycle.specs.Run.{Call, start, program, runFrom, run}
+use Rattle.detection.specs.Log.{ended, Log, blank, logCall, logFrom, log}
 use Rattle.detection.specs.Claims.{stepsWith, Buffers, repair, ShutdownClaim}
-use Rattle.detection.proofs.Elements.{at-set, tabulate-same}
-use Rattle.scrub.proofs.Runs.{run-append}
-use Rattle.scrub.proofs.Asked.{Programs, program-fits}
+use Rattle.detection.proofs.Elements.{at-set}
+use Rattle.cycle.proofs.Runs.{followed-append, run-append}
+use Rattle.array_memory.proofs.Asked.{Programs, program-fits}
 use Rattle.detection.proofs.Still.{stillClaim}
 use Rattle.detection.proofs.Agreement.{Agrees, sized, cells-below, written-row, row-stands}
 use Rattle.detection.proofs.Keeping.{agrees-run}
 use Rattle.detection.proofs.Detection.{agrees, ended-flag}
 
-module _ (s : Shape) where
-  log-append : (xs ys : List Call) (l : Log) → logFrom s l (xs ++ ys) ≡ logFrom s (logFrom s l xs) ys
-  log-append [] ys l = refl
-  log-append (x ∷ xs) ys l = log-append xs ys _
+log-append : (s : Shape) (xs ys : List Call) (l : Log) → logFrom s l (xs ++ ys) ≡ logFrom s (logFrom s l xs) ys
+log-append s = followed-append (logCall s)
 
 -- a flag of 0 says that a test is passed
 flag-zero : (b : Bool) → _≡_ {A = ℕ} (cond b 0 1) 0 → b ≡ true
@@ -46,10 +45,12 @@ flag-zero false e = absurd (omega arith)
 sound-cycle :
     (s : Shape) → Taken s → (st : State) (l : Log) → Agrees s st l → ((i : ℕ) → i < s .rows → Codeword s (getD (l .standing) i []))
     → (buffers : List (List ℕ)) → Buffers s buffers → length buffers ≡ lookups s
-    → runFrom s st (start ∷ stepsWith buffers) .flags ≡ replicate (s .rows) 0
+    → runFrom s st (start ∷ stepsWith buffers) .memory .flags ≡ replicate (s .rows) 0
 sound-cycle s t st l a sound buffers made whole =
     stillClaim s t st (sized s st l a) (cells-below s _ _ _ (a .rows)) buffers made whole
-    ∙ tabulate-same (s .rows) 0 _ (λ i h. ap (λ b. cond b 0 1) (ap (isCodeword s) (row-stands s _ _ _ (a .rows) i h) ∙ codeword-passes s _ (sound i h)))
+    ∙ tabulate-same (s .rows) _ (λ i. 0)
+    (λ i h. ap (λ b. cond b 0 1) (ap (isCodeword s) (row-stands s _ _ _ (a .rows) i h) ∙ codeword-passes s _ (sound i h)))
+    ∙ tabulate-constant (s .rows) 0
 
 module _ (s : Shape) (t : Taken s) (st : State) (l : Log) (a : Agrees s st l) where
   -- row i as it was last written
@@ -78,7 +79,7 @@ module _ (s : Shape) (t : Taken s) (st : State) (l : Log) (a : Agrees s st l) wh
       (e : l .course ≡ ended) (off : l .mark ≡ false)
       (near : (i : ℕ) → i < s .rows → differences (wrote i) (getD (l .standing) i []) ≤ s .errors) where
     -- a row that is not flagged is sound, and so it is the one that was written
-    unflagged-same : (i : ℕ) → i < s .rows → getD (st .flags) i 0 ≡ 0 → getD (l .standing) i [] ≡ wrote i
+    unflagged-same : (i : ℕ) → i < s .rows → getD (st .memory .flags) i 0 ≡ 0 → getD (l .standing) i [] ≡ wrote i
     unflagged-same i h zero-flag =
         let standing : List ℕ = getD (l .standing) i [] in
         let sound : Codeword s standing = codeword-test s standing (flag-zero _ (sym (ended-flag s t st l a e off i h) ∙ zero-flag)) in
@@ -86,16 +87,16 @@ module _ (s : Shape) (t : Taken s) (st : State) (l : Log) (a : Agrees s st l) wh
 
     -- the repair of the first n rows
     abbrev part : ℕ → List Call
-    part n = joined n (λ i. cond (eqb (getD (st .flags) i 0) 0) [] (program i (take (s .width) (wrote i)) ∷ []))
+    part n = joined n (λ i. cond (eqb (getD (st .memory .flags) i 0) 0) [] (program i (take (s .width) (wrote i)) ∷ []))
 
     -- after it these stand as they were written, and of the others those that were not flagged
     repaired :
-        (n : ℕ) → n ≤ s .rows → (i : ℕ) → i < s .rows → (n ≤ i → getD (st .flags) i 0 ≡ 0)
+        (n : ℕ) → n ≤ s .rows → (i : ℕ) → i < s .rows → (n ≤ i → getD (st .memory .flags) i 0 ≡ 0)
         → getD (logFrom s l (part n) .standing) i [] ≡ wrote i
     repaired zero h i k unflagged = unflagged-same i k (unflagged (omega arith))
     repaired (suc n) h i k unflagged =
         rw (log-append s (part n) _ l)
-        (go (eqb (getD (st .flags) n 0) 0) refl (repaired n (omega arith) i k))
+        (go (eqb (getD (st .memory .flags) n 0) 0) refl (repaired n (omega arith) i k))
       where
         given : List ℕ
         given = take (s .width) (wrote n)
@@ -103,11 +104,11 @@ module _ (s : Shape) (t : Taken s) (st : State) (l : Log) (a : Agrees s st l) wh
         before : Log
         before = logFrom s l (part n)
 
-        go : (b : Bool) → eqb (getD (st .flags) n 0) 0 ≡ b
-            → ((n ≤ i → getD (st .flags) i 0 ≡ 0) → getD (before .standing) i [] ≡ wrote i)
+        go : (b : Bool) → eqb (getD (st .memory .flags) n 0) 0 ≡ b
+            → ((n ≤ i → getD (st .memory .flags) i 0 ≡ 0) → getD (before .standing) i [] ≡ wrote i)
             → getD (logFrom s before (cond b [] (program n given ∷ [])) .standing) i [] ≡ wrote i
         go true q rest =
-            rest λ le. ⊎-elim (λ same. ap (λ j. getD (st .flags) j 0) (sym same) ∙ eqb-true _ 0 q) unflagged (eq-or-lt-of-le le)
+            rest λ le. ⊎-elim (λ same. ap (λ j. getD (st .memory .flags) j 0) (sym same) ∙ eqb-true _ 0 q) unflagged (eq-or-lt-of-le le)
         go false q rest =
             rw (program-fits s n given (again n h))
             (at-set (λ row. row ≡ wrote i) (before .standing) n (encode s given) [] i (rw (agrees-run s t (part n) st l a .rows .standingCount) h)
@@ -119,7 +120,7 @@ module _ (s : Shape) (t : Taken s) (st : State) (l : Log) (a : Agrees s st l) wh
 
     quiet-cycle :
         (buffers : List (List ℕ)) → Buffers s buffers → length buffers ≡ lookups s
-        → runFrom s (runFrom s st (part (s .rows))) (start ∷ stepsWith buffers) .flags ≡ replicate (s .rows) 0
+        → runFrom s (runFrom s st (part (s .rows))) (start ∷ stepsWith buffers) .memory .flags ≡ replicate (s .rows) 0
     quiet-cycle =
         let repairs : List Call = part (s .rows) in
         sound-cycle s t (runFrom s st repairs) (logFrom s l repairs) (agrees-run s t repairs st l a)
@@ -131,11 +132,11 @@ shutdownClaim s t calls is off near buffers made whole =
     let st : State = run s calls in
     let l : Log = log s calls in
     let a : Agrees s st l = agrees s t calls in
-    let repairs : List Call = repair s (st .flags) (l .written) in
+    let repairs : List Call = repair s (st .memory .flags) (l .written) in
     let cycle : List Call = start ∷ stepsWith buffers in
     record {
       restored = λ i h. ap (λ k. getD (k .standing) i []) (log-append s calls repairs (blank s)) ∙ restored-row s t st l a is off near i h;
       quiet =
-          ap (λ k. k .flags) (run-append s (fresh s) (calls ++ repairs) cycle ∙ ap (λ k. runFrom s k cycle) (run-append s (fresh s) calls repairs))
+          ap (λ k. k .memory .flags) (run-append s (fresh s) (calls ++ repairs) cycle ∙ ap (λ k. runFrom s k cycle) (run-append s (fresh s) calls repairs))
           ∙ quiet-cycle s t st l a is off near buffers made whole;
     }

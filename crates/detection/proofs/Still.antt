@@ -4,7 +4,6 @@ use mathlib.Core.Bool.{cond}
 use mathlib.Core.List.{List}
 use Prim.Native.Nat.{ℕ, _+_, _*_, _<_}
 use native.Mathlib.Omega.{arith}
-use lib.ListN.{length}
 use lib.Seq.{getD-take, getD-drop, ext-getD}
 use Rattle.parity.specs.Lists.{tabulate}
 use Rattle.parity.specs.Shape.{levels, columns}
@@ -14,17 +13,18 @@ use Rattle.parity.specs.Claims.{Below}
 use Rattle.parity.specs.Questions.{Taken}
 use Rattle.parity.specs.declared.Shape.{Shape}
 use Rattle.parity.proofs.ListLaws.{length-tabulate, getD-tabulate}
-use Rattle.array.specs.Arrays.{cellCount, rowAt}
-use Rattle.array.proofs.RowPlaces.{row-fits, row-sized}
-use Rattle.scrub.specs.Calls.{State}
+use Rattle.array_memory.specs.Geometry.{rowAt}
+use Rattle.array_memory.specs.Memory.{cellCount}
+use Rattle.array_memory.proofs.RowPlaces.{row-fits, row-sized}
+use Rattle.cycle.specs.Calls.{State}
 use Rattle.detection.specs.Claims.{StillClaim}
-use Rattle.scrub.proofs.Steps.{lines-ended}
+use Rattle.cycle.proofs.Steps.{lines-ended}
 use Rattle.detection.proofs.Course.{Underway, underway}
 
 -- the cells of row i are below q where all cells are
 row-below :
     (s : Shape) (cells : List ℕ) (i : ℕ) → i < s .rows → Below (levels s) (cellCount s) cells
-    → Below (levels s) (columns s) (rowAt s cells i)
+    → Below (levels s) (columns s) (rowAt (columns s) cells i)
 unfolding rowAt cellCount
 row-below s cells i h below j l =
     rw (getD-take, getD-drop) (below (i * columns s + j) (omega (arith, row-fits i (s .rows) (columns s) h)))
@@ -32,17 +32,17 @@ row-below s cells i h below j l =
 module _ (s : Shape) (t : Taken s) where
   flags-ended :
       (cells : List ℕ) (st : State) → Below (levels s) (cellCount s) cells → Underway s cells (lookups s) st
-      → st .flags ≡ tabulate (s .rows) (λ i. cond (isCodeword s (rowAt s cells i)) 0 1)
+      → st .memory .flags ≡ tabulate (s .rows) (λ i. cond (isCodeword s (rowAt (columns s) cells i)) 0 1)
   flags-ended cells st below u =
-      let sound : ℕ → ℕ = λ i. cond (isCodeword s (rowAt s cells i)) 0 1 in
-      let below′ : Below (levels s) (cellCount s) (st .cells) = rw (u .still) below in
-      ext-getD 0 (st .flags) (tabulate (s .rows) sound) (u .sized .flags ∙ sym (length-tabulate (s .rows) sound))
+      let sound : ℕ → ℕ = λ i. cond (isCodeword s (rowAt (columns s) cells i)) 0 1 in
+      let below′ : Below (levels s) (cellCount s) (st .memory .cells) = rw (u .still) below in
+      ext-getD 0 (st .memory .flags) (tabulate (s .rows) sound) (u .sized .flags ∙ sym (length-tabulate (s .rows) sound))
       (λ i h.
       let l : i < s .rows = omega (arith, u .sized .flags) in
-      lines-ended s st t (u .lines) i l (row-sized s (st .cells) i (u .sized .cells) l) (row-below s (st .cells) i l below′)
-      ∙ ap (λ held. cond (isCodeword s (rowAt s held i)) 0 1) (u .still)
+      lines-ended s st t (u .lines) i l (row-sized s (st .memory .cells) i (u .sized .cells) l) (row-below s (st .memory .cells) i l below′)
+      ∙ ap (λ held. cond (isCodeword s (rowAt (columns s) held i)) 0 1) (u .still)
       ∙ sym (getD-tabulate (s .rows) sound i 0 l))
 
 pub stillClaim : StillClaim
 stillClaim s t st z below buffers sized whole =
-    flags-ended s t (st .cells) _ below (rw whole at (underway s t st z buffers sized (omega arith)))
+    flags-ended s t (st .memory .cells) _ below (rw whole at (underway s t st z buffers sized (omega arith)))

@@ -7,19 +7,20 @@ use Prim.Native.Nat.{ℕ, _≤_, _<_}
 use lib.Dec.{eqb}
 use lib.ListN.{length, getD, take, replicate}
 use Rattle.parity.specs.Lists.{tabulate, joined, differences}
-use Rattle.parity.specs.Shape.{levels}
+use Rattle.parity.specs.Shape.{levels, columns}
 use Rattle.parity.specs.Matrix.{lookups}
 use Rattle.parity.specs.Codeword.{isCodeword}
 use Rattle.parity.specs.Questions.{Taken}
 use Rattle.parity.specs.declared.Shape.{Shape}
-use Rattle.array.specs.Arrays.{cellCount, rowAt}
-use Rattle.scrub.specs.Record.{cycleAt, isNext}
-use Rattle.scrub.specs.Calls.{State, Sized}
-use Rattle.scrub.specs.Run.{Call, start, program, step, runFrom, run}
+use Rattle.array_memory.specs.Geometry.{rowAt}
+use Rattle.array_memory.specs.Memory.{Sized, cellCount}
+use Rattle.cycle.specs.Record.{cycleAt, isNext}
+use Rattle.cycle.specs.Calls.{State}
+use Rattle.cycle.specs.Run.{Call, start, program, step, runFrom, run}
 use Rattle.detection.specs.Log.{Course, none, open-cycle, ended, log}
-use Rattle.scrub.specs.declared.cycle.Cycle.{Cycle}
-use Rattle.scrub.specs.declared.cycle.Phase.{Phase}
-use Rattle.scrub.specs.declared.cycle.Phase.the-variants.{Idle, Open, Complete}
+use Rattle.cycle.specs.declared.Cycle.{Cycle}
+use Rattle.cycle.specs.declared.Phase.{Phase}
+use Rattle.cycle.specs.declared.Phase.the-variants.{Idle, Open, Complete}
 
 -- the cells of rows, one row after the other
 abbrev pub flat : List (List ℕ) → List ℕ
@@ -38,22 +39,27 @@ pub record RightFlag (written standing : List ℕ) (flag : ℕ) : Type 0 where
   pub changed : (written ≡ standing → ⊥) → flag ≡ 1
 
 -- After a list of calls the cells are the rows as they stand, and the record is idle, open or complete as the log's cycle is none, open or
--- ended, with the log's count. Where the last call is a step that ends a cycle with the mark off, each row whose two forms differ in at most
--- τ cells has flag 0 if they are equal and 1 if not.
+-- ended, with the log's count. A cycle ends exactly at its accepted step (q − 1) × W: the count is that number where it has ended and below it
+-- where it is open. And where a cycle has ended with the mark off, so that no accepted drift fell between its start and its last step nor
+-- since, each row whose two forms differ in at most τ cells has flag 0 if they are equal and 1 if not.
 pub record Detects (s : Shape) (calls : List Call) : Type 0 where
-  pub cells : run s calls .cells ≡ flat (log s calls .standing)
+  pub cells : run s calls .memory .cells ≡ flat (log s calls .standing)
   pub phase : run s calls .cycle .phase ≡ phaseOf (log s calls .course)
   pub count : run s calls .cycle .count ≡ log s calls .count
+  pub open-below : log s calls .course ≡ open-cycle → run s calls .cycle .count < lookups s
+  pub ended-at : log s calls .course ≡ ended → run s calls .cycle .count ≡ lookups s
   pub verdict :
-      (before : List Call) (matches : List ℕ) → calls ≡ before ++ step matches ∷ []
-      → log s before .course ≡ open-cycle → log s calls .course ≡ ended → log s calls .mark ≡ false
-      → (i : ℕ) → i < s .rows
+      log s calls .course ≡ ended → log s calls .mark ≡ false → (i : ℕ) → i < s .rows
       → differences (getD (log s calls .written) i []) (getD (log s calls .standing) i []) ≤ s .errors
-      → RightFlag (getD (log s calls .written) i []) (getD (log s calls .standing) i []) (getD (run s calls .flags) i 0)
+      → RightFlag (getD (log s calls .written) i []) (getD (log s calls .standing) i []) (getD (run s calls .memory .flags) i 0)
 
 -- Demand 3: every shape taken, every list of calls.
 abbrev pub DetectionClaim : Type 0
 DetectionClaim = (s : Shape) → Taken s → (calls : List Call) → Detects s calls
+
+-- No list makes a cell of q or more.
+abbrev pub LevelsClaim : Type 0
+LevelsClaim = (s : Shape) → Taken s → (calls : List Call) (i : ℕ) → i < cellCount s → getD (run s calls .memory .cells) i 0 < levels s
 
 -- a step with each of the buffers for match bytes
 abbrev pub stepsWith : List (List ℕ) → List Call
@@ -68,7 +74,7 @@ Buffers s (buffer ∷ buffers) = (length buffer ≡ s .rows) × Buffers s buffer
 -- and complete at it, whatever stood in counters, flags, record and buffers before, and for every number of rows.
 abbrev pub CourseClaim : Type 0
 CourseClaim =
-    (s : Shape) → Taken s → (st : State) → Sized s st → (buffers : List (List ℕ)) → Buffers s buffers → length buffers ≤ lookups s
+    (s : Shape) → Taken s → (st : State) → Sized s (st .memory) → (buffers : List (List ℕ)) → Buffers s buffers → length buffers ≤ lookups s
     → (runFrom s st (start ∷ stepsWith buffers) .cycle ≡ cycleAt s (length buffers))
     × (cycleAt s (length buffers) .count ≡ length buffers)
     × ((length buffers < lookups s) → cycleAt s (length buffers) .phase ≡ Open)
@@ -82,12 +88,13 @@ QuestionNineClaim =
     ↔ ((buffers : List (List ℕ)) × Buffers s buffers × (length buffers < lookups s) × (cycle ≡ run s (start ∷ stepsWith buffers) .cycle))
 
 -- On an array that stays still, with all cells below q, a start and a whole cycle leave flags that say exactly which rows are not sound,
--- whatever counters and flags were before; also beyond τ changed cells.
+-- whatever counters and flags were before; also beyond τ changed cells. (`isCodeword` is `Codeword` as a test: `CodewordClaim` of parity.)
 abbrev pub StillClaim : Type 0
 StillClaim =
-    (s : Shape) → Taken s → (st : State) → Sized s st → ((i : ℕ) → i < cellCount s → getD (st .cells) i 0 < levels s)
+    (s : Shape) → Taken s → (st : State) → Sized s (st .memory) → ((i : ℕ) → i < cellCount s → getD (st .memory .cells) i 0 < levels s)
     → (buffers : List (List ℕ)) → Buffers s buffers → length buffers ≡ lookups s
-    → runFrom s st (start ∷ stepsWith buffers) .flags ≡ tabulate (s .rows) (λ i. cond (isCodeword s (rowAt s (st .cells) i)) 0 1)
+    → runFrom s st (start ∷ stepsWith buffers) .memory .flags
+    ≡ tabulate (s .rows) (λ i. cond (isCodeword s (rowAt (columns s) (st .memory .cells) i)) 0 1)
 
 -- every flagged row programmed again from what was last written
 abbrev pub repair : Shape → List ℕ → List (List ℕ) → List Call
@@ -98,8 +105,8 @@ repair s flags written = joined (s .rows) (λ i. cond (eqb (getD flags i 0) 0) [
 pub record Shutdown (s : Shape) (calls : List Call) (buffers : List (List ℕ)) : Type 0 where
   pub restored :
       (i : ℕ) → i < s .rows
-      → getD (log s (calls ++ repair s (run s calls .flags) (log s calls .written)) .standing) i [] ≡ getD (log s calls .written) i []
-  pub quiet : run s (calls ++ repair s (run s calls .flags) (log s calls .written) ++ start ∷ stepsWith buffers) .flags ≡ replicate (s .rows) 0
+      → getD (log s (calls ++ repair s (run s calls .memory .flags) (log s calls .written)) .standing) i [] ≡ getD (log s calls .written) i []
+  pub quiet : run s (calls ++ repair s (run s calls .memory .flags) (log s calls .written) ++ start ∷ stepsWith buffers) .memory .flags ≡ replicate (s .rows) 0
 
 abbrev pub ShutdownClaim : Type 0
 ShutdownClaim =

@@ -1,18 +1,18 @@
 -- Document 01's log of a list of calls. It is fed the shape and the calls alone: of the library it names the shape's sizes, the questions on
 -- arguments, the encoded row and the length of a cycle.
 use mathlib.Core.Bool.{Bool, true, false, cond}
-use mathlib.Core.List.{List, [], _∷_}
+use mathlib.Core.List.{List, []}
 use Prim.Native.Nat.{ℕ, suc}
 use lib.Dec.{eqb}
 use lib.ListN.{getD, set, replicate}
 use Rattle.parity.specs.Shape.{columns}
 use Rattle.parity.specs.Matrix.{lookups}
 use Rattle.parity.specs.Codeword.{encode}
-use Rattle.parity.specs.Questions.{firstNo}
+use Rattle.parity.specs.Questions.{firstNo, ifTaken}
 use Rattle.parity.specs.declared.Shape.{Shape}
-use Rattle.array.specs.Arrays.{programArguments, driftArguments}
-use Rattle.scrub.specs.Calls.{stepArguments}
-use Rattle.scrub.specs.Run.{Call, clear, start, program, drift, lookup, step}
+use Rattle.array_memory.specs.Questions.{programArguments, driftArguments}
+use Rattle.cycle.specs.Calls.{stepArguments}
+use Rattle.cycle.specs.Run.{Call, clear, start, program, drift, lookup, step, followed}
 
 -- the log's cycle: none, open or ended
 pub data Course : Type 0 where
@@ -84,14 +84,13 @@ whileOpen ended taken refused = refused
 abbrev pub logCall : Shape → Log → Call → Log
 logCall s l clear = blank s
 logCall s l start = logStart l
-logCall s l (program row given) = cond (eqb (firstNo (programArguments s row given)) 0) (logProgram s row given l) l
-logCall s l (drift row column level) = cond (eqb (firstNo (driftArguments s row column level)) 0) (logDrift row column level l) l
+logCall s l (program row given) = ifTaken (firstNo (programArguments s row given)) (logProgram s row given l) l
+logCall s l (drift row column level) = ifTaken (firstNo (driftArguments s row column level)) (logDrift row column level l) l
 logCall s l (lookup inputs matches) = l
-logCall s l (step matches) = cond (eqb (firstNo (stepArguments s matches)) 0) (whileOpen (l .course) (logStep s l) l) l
+logCall s l (step matches) = ifTaken (firstNo (stepArguments s matches)) (whileOpen (l .course) (logStep s l) l) l
 
 abbrev pub logFrom : Shape → Log → List Call → Log
-logFrom s l [] = l
-logFrom s l (c ∷ cs) = logFrom s (logCall s l c) cs
+logFrom s l calls = followed (logCall s) l calls
 
 -- the log of a list of calls
 unfoldable pub log : Shape → List Call → Log

@@ -1,2 +1,2 @@
--- What the calls for other languages give beside the words: the numbers that stand for an answer.
+-- What the calls for C tell: a number, and a value.
 pub mod Numbers

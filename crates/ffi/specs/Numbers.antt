@@ -1,25 +1,18 @@
--- The answers of a first match and of sound as numbers: that of the first no, 0 where there is none, and the value that goes with it.
-use mathlib.Core.Bool.{Bool, true, false}
+-- What a call for C tells: the number that it returns, 0 where it is taken, and the value that it leaves behind a pointer.
+use mathlib.Core.Bool.{cond}
 use Prim.Native.Nat.{ℕ}
-use Rattle.limits.specs.declared.answer.First.{First}
-use Rattle.limits.specs.declared.answer.First.the-variants as firsts
-use Rattle.limits.specs.declared.answer.Verdict.{Verdict}
-use Rattle.limits.specs.declared.answer.Verdict.the-variants as verdicts
+use lib.Dec.{eqb}
+use Rattle.shape.specs.Answers.{Said, Found, row, none}
 
--- the row that a first match finds: m where no row matches, 0 where it is refused
-abbrev pub firstFound : First → ℕ → ℕ
-firstFound (firsts.Row i) m = i
-firstFound firsts.Nothing m = m
-firstFound (firsts.Refused n) m = 0
+-- what a number and a value say: the call is taken exactly where the number is 0
+abbrev pub telling : {A : Type 0} → ℕ → A → Said A
+telling number value = record { taken = eqb number 0; number = number; value = value }
 
--- the number of a verdict
-abbrev pub verdictNumber : Verdict → ℕ
-verdictNumber verdicts.Yes = 0
-verdictNumber verdicts.No = 0
-verdictNumber (verdicts.Refused n) = n
+-- what a first match finds among m rows, as a number: m for none
+abbrev pub foundNumber : ℕ → Found → ℕ
+foundNumber m (row i) = i
+foundNumber m none = m
 
--- whether a verdict is yes
-abbrev pub verdictHolds : Verdict → Bool
-verdictHolds verdicts.Yes = true
-verdictHolds verdicts.No = false
-verdictHolds (verdicts.Refused n) = false
+-- what a first match among m rows says, as a number: 0 where it is refused
+abbrev pub foundSays : ℕ → Said Found → Said ℕ
+foundSays m said = record { taken = said .taken; number = said .number; value = cond (said .taken) (foundNumber m (said .value)) 0 }

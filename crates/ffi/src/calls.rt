@@ -1,14 +1,17 @@
 // The calls that have the record. A refused call leaves the words and every buffer as they were.
+use cycle_run::run_cycle;
+use ffi_words::cycle_of;
+use ffi_words::store;
 use parity::Shape;
-use whole::run_cycle;
-use words::cycle_of;
-use words::store;
 ghost use mathlib.Core.Path.{_≡_};
 ghost use mathlib.Core.List.{[]};
-ghost use Rattle.scrub.specs.Calls.{clearCall, programCall, startCall, stepCall};
-ghost use Rattle.scrub.specs.Methods.{stateOf};
-ghost use Rattle.whole.specs.Whole.{cycleCall};
-ghost use Rattle.words.specs.Words.{cycleOf, storedWords};
+ghost use Rattle.shape.specs.Answers.{giving};
+ghost use Rattle.shape.specs.Lent.{was, left};
+ghost use Rattle.array_memory.specs.Memory.{Memory, withCells, withRows, withAll};
+ghost use Rattle.cycle.specs.Calls.{clearCall, programCall, startCall, stepCall};
+ghost use Rattle.cycle_run.specs.Cycles.{cycleCall};
+ghost use Rattle.ffi_words.specs.Words.{storedOf, onWords};
+ghost use Rattle.ffi.specs.Numbers.{telling};
 
 // Clear: cells, counters and flags all 0, record idle: the fresh array.
 #[no_mangle]
@@ -19,11 +22,8 @@ pub extern "C" fn jorivelune_clear(
     counters: &mut [u8],
     flags: &mut [u8],
 ) -> u8
-    ensures answered { λ r. ⌜ r ≡ clearCall shape (stateOf (now (cells .entry)) (now (counters .entry)) (now (flags .entry)) (cycleOf (now (words .entry)))) .refusal ⌝ }
-    ensures recorded { λ r. ⌜ now (words .exit) ≡ storedWords (clearCall shape (stateOf (now (cells .entry)) (now (counters .entry)) (now (flags .entry)) (cycleOf (now (words .entry))))) (now (words .entry)) ⌝ }
-    ensures kept { λ r. ⌜ now (cells .exit) ≡ clearCall shape (stateOf (now (cells .entry)) (now (counters .entry)) (now (flags .entry)) (cycleOf (now (words .entry)))) .state .cells ⌝ }
-    ensures counted { λ r. ⌜ now (counters .exit) ≡ clearCall shape (stateOf (now (cells .entry)) (now (counters .entry)) (now (flags .entry)) (cycleOf (now (words .entry)))) .state .counters ⌝ }
-    ensures flagged { λ r. ⌜ now (flags .exit) ≡ clearCall shape (stateOf (now (cells .entry)) (now (counters .entry)) (now (flags .entry)) (cycleOf (now (words .entry)))) .state .flags ⌝ }
+    ensures { λ r. ⌜ ((mem : Memory) → onWords (clearCall shape) (withAll (was cells) (was counters) (was flags) mem) (was words)
+        ≡ giving (telling r 0) [] (storedOf (withAll (left cells) (left counters) (left flags) mem) (left words))) ⌝ }
 {
     let cycle = cycle_of(words);
     store(words, cycle.clear(shape, cells, counters, flags))
@@ -38,9 +38,8 @@ pub extern "C" fn jorivelune_program(
     row: usize,
     given: &[u8],
 ) -> u8
-    ensures answered { λ r. ⌜ r ≡ programCall shape (stateOf (now (cells .entry)) [] [] (cycleOf (now (words .entry)))) row (now (given .entry)) .refusal ⌝ }
-    ensures recorded { λ r. ⌜ now (words .exit) ≡ storedWords (programCall shape (stateOf (now (cells .entry)) [] [] (cycleOf (now (words .entry)))) row (now (given .entry))) (now (words .entry)) ⌝ }
-    ensures kept { λ r. ⌜ now (cells .exit) ≡ programCall shape (stateOf (now (cells .entry)) [] [] (cycleOf (now (words .entry)))) row (now (given .entry)) .state .cells ⌝ }
+    ensures { λ r. ⌜ ((mem : Memory) → onWords (λ st. programCall shape st row (was given)) (withCells (was cells) mem) (was words)
+        ≡ giving (telling r 0) [] (storedOf (withCells (left cells) mem) (left words))) ⌝ }
 {
     let cycle = cycle_of(words);
     store(words, cycle.program(shape, cells, row, given))
@@ -54,10 +53,8 @@ pub extern "C" fn jorivelune_start(
     counters: &mut [u8],
     flags: &mut [u8],
 ) -> u8
-    ensures answered { λ r. ⌜ r ≡ startCall shape (stateOf [] (now (counters .entry)) (now (flags .entry)) (cycleOf (now (words .entry)))) .refusal ⌝ }
-    ensures recorded { λ r. ⌜ now (words .exit) ≡ storedWords (startCall shape (stateOf [] (now (counters .entry)) (now (flags .entry)) (cycleOf (now (words .entry))))) (now (words .entry)) ⌝ }
-    ensures counted { λ r. ⌜ now (counters .exit) ≡ startCall shape (stateOf [] (now (counters .entry)) (now (flags .entry)) (cycleOf (now (words .entry)))) .state .counters ⌝ }
-    ensures flagged { λ r. ⌜ now (flags .exit) ≡ startCall shape (stateOf [] (now (counters .entry)) (now (flags .entry)) (cycleOf (now (words .entry)))) .state .flags ⌝ }
+    ensures { λ r. ⌜ ((mem : Memory) → onWords (startCall shape) (withRows (was counters) (was flags) mem) (was words)
+        ≡ giving (telling r 0) [] (storedOf (withRows (left counters) (left flags) mem) (left words))) ⌝ }
 {
     let cycle = cycle_of(words);
     store(words, cycle.start(shape, counters, flags))
@@ -73,11 +70,8 @@ pub extern "C" fn jorivelune_step(
     flags: &mut [u8],
     matches: &mut [u8],
 ) -> u8
-    ensures answered { λ r. ⌜ r ≡ stepCall shape (stateOf (now (cells .entry)) (now (counters .entry)) (now (flags .entry)) (cycleOf (now (words .entry)))) (now (matches .entry)) .refusal ⌝ }
-    ensures recorded { λ r. ⌜ now (words .exit) ≡ storedWords (stepCall shape (stateOf (now (cells .entry)) (now (counters .entry)) (now (flags .entry)) (cycleOf (now (words .entry)))) (now (matches .entry))) (now (words .entry)) ⌝ }
-    ensures matched { λ r. ⌜ now (matches .exit) ≡ stepCall shape (stateOf (now (cells .entry)) (now (counters .entry)) (now (flags .entry)) (cycleOf (now (words .entry)))) (now (matches .entry)) .matches ⌝ }
-    ensures counted { λ r. ⌜ now (counters .exit) ≡ stepCall shape (stateOf (now (cells .entry)) (now (counters .entry)) (now (flags .entry)) (cycleOf (now (words .entry)))) (now (matches .entry)) .state .counters ⌝ }
-    ensures flagged { λ r. ⌜ now (flags .exit) ≡ stepCall shape (stateOf (now (cells .entry)) (now (counters .entry)) (now (flags .entry)) (cycleOf (now (words .entry)))) (now (matches .entry)) .state .flags ⌝ }
+    ensures { λ r. ⌜ ((mem : Memory) → onWords (λ st. stepCall shape st (was matches)) (withAll (was cells) (was counters) (was flags) mem) (was words)
+        ≡ giving (telling r 0) (left matches) (storedOf (withAll (was cells) (left counters) (left flags) mem) (left words))) ⌝ }
 {
     let cycle = cycle_of(words);
     store(words, cycle.step(shape, cells, counters, flags, matches))
@@ -93,11 +87,8 @@ pub extern "C" fn jorivelune_run(
     flags: &mut [u8],
     matches: &mut [u8],
 ) -> u8
-    ensures answered { λ r. ⌜ r ≡ cycleCall shape (stateOf (now (cells .entry)) (now (counters .entry)) (now (flags .entry)) (cycleOf (now (words .entry)))) (now (matches .entry)) .refusal ⌝ }
-    ensures recorded { λ r. ⌜ now (words .exit) ≡ storedWords (cycleCall shape (stateOf (now (cells .entry)) (now (counters .entry)) (now (flags .entry)) (cycleOf (now (words .entry)))) (now (matches .entry))) (now (words .entry)) ⌝ }
-    ensures matched { λ r. ⌜ now (matches .exit) ≡ cycleCall shape (stateOf (now (cells .entry)) (now (counters .entry)) (now (flags .entry)) (cycleOf (now (words .entry)))) (now (matches .entry)) .matches ⌝ }
-    ensures counted { λ r. ⌜ now (counters .exit) ≡ cycleCall shape (stateOf (now (cells .entry)) (now (counters .entry)) (now (flags .entry)) (cycleOf (now (words .entry)))) (now (matches .entry)) .state .counters ⌝ }
-    ensures flagged { λ r. ⌜ now (flags .exit) ≡ cycleCall shape (stateOf (now (cells .entry)) (now (counters .entry)) (now (flags .entry)) (cycleOf (now (words .entry)))) (now (matches .entry)) .state .flags ⌝ }
+    ensures { λ r. ⌜ ((mem : Memory) → onWords (λ st. cycleCall shape st (was matches)) (withAll (was cells) (was counters) (was flags) mem) (was words)
+        ≡ giving (telling r 0) (left matches) (storedOf (withAll (was cells) (left counters) (left flags) mem) (left words))) ⌝ }
 {
     let cycle = cycle_of(words);
     store(

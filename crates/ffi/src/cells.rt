@@ -1,24 +1,27 @@
-// The calls on the cells alone. A refused call leaves every buffer as it was.
+// The calls without the record: on the cells, and on one lent row. A refused call leaves every buffer as it was.
+use acam::encode::encode_row;
 use array::cells::read;
 use array::cells::sound;
 use array::change::drift;
-use limits::answer::Answer;
-use limits::answer::First;
-use limits::answer::Outcome;
-use limits::answer::Verdict;
-use lookup::first::first_match;
-use lookup::task::lookup;
+use array_lookup::first::first_match;
+use array_lookup::task::lookup;
 use parity::Shape;
-use row::calls::encode_row;
+use shape::answer::Answer;
+use shape::answer::First;
+use shape::answer::Outcome;
+use shape::answer::Verdict;
 ghost use mathlib.Core.Path.{_≡_};
-ghost use Rattle.row.specs.Rows.{encodeRefusal, encodedRow};
-ghost use Rattle.array.specs.Arrays.{driftRefusal, driftCells, lookupRefusal, lookupMatches, lookupCount};
-ghost use Rattle.array.specs.Answers.{readRefusal, readCells, firstRefusal, firstAnswer, soundAnswer};
-ghost use Rattle.ffi.specs.Numbers.{firstFound, verdictNumber, verdictHolds};
-ghost use Rattle.words.specs.Words.{outcomeNumber};
+ghost use mathlib.Core.List.{[]};
+ghost use Rattle.shape.specs.Answers.{outcomeSays, giving};
+ghost use Rattle.shape.specs.Lent.{was, left};
+ghost use Rattle.acam.specs.Rows.{encodeCall};
+ghost use Rattle.array_memory.specs.Memory.{Memory, withCells};
+ghost use Rattle.array.specs.Calls.{driftCall, readCall, soundCall};
+ghost use Rattle.array_lookup.specs.Lookups.{lookupCall, firstCall};
+ghost use Rattle.ffi.specs.Numbers.{telling, foundSays};
 
 fn number_of(outcome: Outcome) -> u8
-    ensures { λ r. ⌜ r ≡ outcomeNumber outcome ⌝ }
+    ensures { λ r. ⌜ r ≡ outcomeSays outcome .number ⌝ }
 {
     match outcome {
         Outcome::Done => 0,
@@ -35,8 +38,8 @@ pub extern "C" fn jorivelune_drift(
     column: usize,
     level: u8,
 ) -> u8
-    ensures answered { λ r. ⌜ r ≡ driftRefusal shape (now (cells .entry)) row column level ⌝ }
-    ensures written { λ r. ⌜ now (cells .exit) ≡ driftCells shape (now (cells .entry)) row column level ⌝ }
+    ensures { λ r. ⌜ ((mem : Memory) → driftCall shape (withCells (was cells) mem) row column level
+        ≡ giving (telling r 0) [] (withCells (left cells) mem)) ⌝ }
 {
     number_of(drift(shape, cells, row, column, level))
 }
@@ -44,8 +47,8 @@ pub extern "C" fn jorivelune_drift(
 // Read: copies the k rule cells of a row out.
 #[no_mangle]
 pub extern "C" fn jorivelune_read(shape: Shape, cells: &[u8], row: usize, out: &mut [u8]) -> u8
-    ensures answered { λ r. ⌜ r ≡ readRefusal shape (now (cells .entry)) row (now (out .entry)) ⌝ }
-    ensures written { λ r. ⌜ now (out .exit) ≡ readCells shape (now (cells .entry)) row (now (out .entry)) ⌝ }
+    ensures { λ r. ⌜ ((mem : Memory) → readCall shape (withCells (was cells) mem) row (was out)
+        ≡ giving (telling r 0) (left out) (withCells (was cells) mem)) ⌝ }
 {
     number_of(read(shape, cells, row, out))
 }
@@ -53,8 +56,7 @@ pub extern "C" fn jorivelune_read(shape: Shape, cells: &[u8], row: usize, out: &
 // Encode: writes the check cells of one row of n cells from its first k.
 #[no_mangle]
 pub extern "C" fn jorivelune_encode(shape: Shape, row: &mut [u8]) -> u8
-    ensures answered { λ r. ⌜ r ≡ encodeRefusal shape (now (row .entry)) ⌝ }
-    ensures written { λ r. ⌜ now (row .exit) ≡ encodedRow shape (now (row .entry)) ⌝ }
+    ensures { λ r. ⌜ encodeCall shape (was row) ≡ giving (telling r 0) [] (left row) ⌝ }
 {
     number_of(encode_row(shape, row))
 }
@@ -68,9 +70,8 @@ pub extern "C" fn jorivelune_lookup(
     matches: &mut [u8],
     count: &mut usize,
 ) -> u8
-    ensures answered { λ r. ⌜ r ≡ lookupRefusal shape (now (cells .entry)) (now (inputs .entry)) (now (matches .entry)) ⌝ }
-    ensures written { λ r. ⌜ now (matches .exit) ≡ lookupMatches shape (now (cells .entry)) (now (inputs .entry)) (now (matches .entry)) ⌝ }
-    ensures counted { λ r. ⌜ now (count .exit) ≡ lookupCount shape (now (cells .entry)) (now (inputs .entry)) (now (matches .entry)) ⌝ }
+    ensures { λ r. ⌜ ((mem : Memory) → lookupCall shape (withCells (was cells) mem) (was inputs) (was matches)
+        ≡ giving (telling r (left count)) (left matches) (withCells (was cells) mem)) ⌝ }
 {
     match lookup(shape, cells, inputs, matches) {
         Answer::Is(number) => {
@@ -92,8 +93,8 @@ pub extern "C" fn jorivelune_first_match(
     inputs: &[u8],
     found: &mut usize,
 ) -> u8
-    ensures answered { λ r. ⌜ r ≡ firstRefusal shape (now (cells .entry)) (now (inputs .entry)) ⌝ }
-    ensures found { λ r. ⌜ now (found .exit) ≡ firstFound (firstAnswer shape (now (cells .entry)) (now (inputs .entry))) (shape .rows) ⌝ }
+    ensures { λ r. ⌜ ((mem : Memory) → foundSays (shape .rows) (firstCall shape (withCells (was cells) mem) (was inputs))
+        ≡ telling r (left found)) ⌝ }
 {
     match first_match(shape, cells, inputs) {
         First::Row(row) => {
@@ -114,8 +115,7 @@ pub extern "C" fn jorivelune_first_match(
 // Sound: whether the row is sound goes to `holds`, false where the call is refused.
 #[no_mangle]
 pub extern "C" fn jorivelune_sound(shape: Shape, cells: &[u8], row: usize, holds: &mut bool) -> u8
-    ensures answered { λ r. ⌜ r ≡ verdictNumber (soundAnswer shape (now (cells .entry)) row) ⌝ }
-    ensures held { λ r. ⌜ now (holds .exit) ≡ verdictHolds (soundAnswer shape (now (cells .entry)) row) ⌝ }
+    ensures { λ r. ⌜ ((mem : Memory) → soundCall shape (withCells (was cells) mem) row ≡ telling r (left holds)) ⌝ }
 {
     match sound(shape, cells, row) {
         Verdict::Yes => {

@@ -1,150 +1,135 @@
--- A job's calls taken apart: programming and drifts change the cells alone of an idle array, and the steps of a cycle do not read the buffer
--- for match bytes, so that the state of a job is that of its cycle on the cells that its programming and its drifts leave. Assumes nothing.
-use mathlib.Core.Path.{_≡_, refl, sym, _∙_, ap}
-use mathlib.Core.Bool.{Bool, true, false, cond}
+-- A job's calls, one after the other: programming an idle array leaves it idle, the steps of a cycle do not read the buffer for match bytes,
+-- and so what each call leaves of what the one before left is the state of the job. Assumes nothing.
+use mathlib.Core.Path.{_≡_, refl, sym, _∙_, ap, ap₂}
 use mathlib.Core.List.{List, [], _∷_, _++_}
 use Prim.Native.Nat.{ℕ, zero, suc}
-use lib.Dec.{eqb}
 use lib.ListN.{length, replicate, length-replicate}
 use borrow.Author.Tests.{eq-eqb}
-use Rattle.parity.specs.Lists.{joined}
 use Rattle.parity.specs.Matrix.{lookups}
-use Rattle.parity.specs.Questions.{Taken}
+use Rattle.parity.specs.Questions.{firstNo, ifTaken, Taken}
 use Rattle.parity.specs.declared.Shape.{Shape}
-use Rattle.limits.proofs.Refusals.{taken-rest}
-use Rattle.array.specs.Arrays.{cellCount, programRefusal, programCells}
-use Rattle.scrub.specs.Record.{idle}
-use Rattle.scrub.specs.Calls.{Sized, State, clearRefusal, fresh, clearCall, programCall, driftCall, stepArguments, stepRefusal, stepCall}
-use Rattle.scrub.specs.Run.{Call, clear, start, program, drift, step, result, runFrom, run}
-use Rattle.scrub.specs.Methods.{stateOf}
-use Rattle.whole.specs.Whole.{cycleRefusal, cycleCall}
-use Rattle.scrub.proofs.Asked.{clear-asked}
-use Rattle.scrub.proofs.Given.{makes}
-use Rattle.scrub.proofs.Lent.{lengthQuestions}
-use Rattle.scrub.proofs.Steps.{fresh-sized}
-use Rattle.parse.specs.Parse.{jobShape, rowLevels, driftCount, driftRow, driftColumn, driftLevel}
-use Rattle.job.specs.Job.{jobCalls, jobState}
-use Rattle.scrub.proofs.Runs.{run-append}
+use Rattle.shape.specs.Answers.{accepted, refused, giving, calling}
+use Rattle.shape.proofs.Refusals.{taken-rest}
+use Rattle.shape.proofs.Calling.{call-done}
+use Rattle.array_memory.specs.Memory.{Memory, withCells, withAll, noMemory, Sized}
+use Rattle.array_memory.specs.Questions.{cellsQuestions, programArguments}
+use Rattle.array.specs.Calls.{programmed}
+use Rattle.cycle.specs.Record.{idle}
+use Rattle.cycle.specs.Calls.{State, stateOf, zeroRows, cleared, fresh, clearQuestions, clearCall, programCall}
+use Rattle.cycle.specs.Calls.{lentQuestions, stepQuestions, stepMatches, stepped, stepCall}
+use Rattle.cycle.specs.Run.{Call, clear, start, step, runFrom, run}
+use Rattle.cycle.specs.Methods.{changing, doneWith}
+use Rattle.cycle.specs.declared.Changed.{Changed}
+use Rattle.cycle.proofs.Asked.{clear-asked}
+use Rattle.cycle.proofs.Runs.{run-append}
+use Rattle.cycle.proofs.Steps.{fresh-sized}
+use Rattle.cycle_run.specs.Cycles.{cycleQuestions, lastMatches, cycleCall}
+use Rattle.job_parse.specs.Parse.{jobShape, driftCount}
+use Rattle.job.specs.Job.{programCalls, driftCalls, jobCalls, jobState, jobMatches}
 
 module _ (s : Shape) where
-  -- ---- calls that change the cells alone
-
-  -- the cells that calls leave of the cells of an idle array
-  abbrev pub cellsAfter : List ℕ → List Call → List ℕ
-  cellsAfter cells calls = runFrom s (stateOf cells [] [] idle) calls .cells
-
-  -- calls that read and change nothing of an idle array but its cells
-  abbrev CellsAlone : List Call → Type 0
-  CellsAlone calls =
-      (cells counters flags : List ℕ)
-      → runFrom s (stateOf cells counters flags idle) calls ≡ stateOf (cellsAfter cells calls) counters flags idle
-
-  alone-append : (a b : List Call) → CellsAlone a → CellsAlone b → CellsAlone (a ++ b)
-  alone-append a b one two cells counters flags =
-      let after : (c f : List ℕ) → runFrom s (stateOf cells c f idle) (a ++ b) ≡ stateOf (cellsAfter (cellsAfter cells a) b) c f idle = λ c f.
-      run-append s (stateOf cells c f idle) a b ∙ ap (λ st. runFrom s st b) (one cells c f) ∙ two (cellsAfter cells a) c f in
-      after counters flags ∙ ap (λ st. stateOf (st .cells) counters flags idle) (sym (after [] []))
-
-  alone-joined : (f : ℕ → List Call) → ((i : ℕ) → CellsAlone (f i)) → (n : ℕ) → CellsAlone (joined n f)
-  alone-joined f each zero = λ cells counters flags. refl
-  alone-joined f each (suc n) = alone-append (joined n f) (f n) (alone-joined f each n) (each n)
-
-  alone-program : (row : ℕ) (given : List ℕ) → CellsAlone (program row given ∷ [])
-  unfolding programCall
-  alone-program row given cells counters flags =
-      ap (stateOf (programCells s cells row given) counters flags) (same (eqb (programRefusal s cells row given) 0))
+  -- what programming gives of an idle array is idle
+  pub program-left :
+      (mem last : Memory) (row : ℕ) (given : List ℕ) (r : Changed) → programCall s (stateOf mem idle) row given ≡ changing r [] last
+      → programCall s (stateOf mem idle) row given .state ≡ stateOf last idle
+  unfolding programCall calling
+  program-left mem last row given r e =
+      let asked = firstNo (cellsQuestions s (length (mem .cells)) (programArguments s row given)) in
+      ap (λ r. r .state) e ∙ ap (stateOf last) (sym (ap (λ r. r .state .cycle) e) ∙ still asked asked)
     where
-      same : (b : Bool) → cond b idle idle ≡ idle
-      same true = refl
-      same false = refl
+      still :
+          (n m : ℕ)
+          → ifTaken n (giving (accepted 0) [] (stateOf (programmed s mem row given) idle)) (giving (refused 0 m) [] (stateOf mem idle)) .state .cycle ≡ idle
+      still zero m = refl
+      still (suc n) m = refl
 
-  alone-drift : (row column level : ℕ) → CellsAlone (drift row column level ∷ [])
-  unfolding driftCall
-  alone-drift row column level cells counters flags = refl
+  -- a step leaves the same whatever its buffer holds
+  module _ (a b : List ℕ) (e : length a ≡ length b) where
+    step-same : (st : State) → stepCall s st a .state ≡ stepCall s st b .state
+    unfolding stepCall calling
+    step-same st = rw e (go (firstNo (stepQuestions s st b)) _)
+      where
+        go :
+            (n m : ℕ) → let done = giving (accepted 0) (stepMatches s st) (stepped s st) in
+            ifTaken n done (giving (refused 0 m) a st) .state ≡ ifTaken n done (giving (refused 0 m) b st) .state
+        go zero m = refl
+        go (suc n) m = refl
 
-  -- ---- the steps of a cycle
+    steps-same : (n : ℕ) (st : State) → runFrom s st (replicate n (step a)) ≡ runFrom s st (replicate n (step b))
+    steps-same zero st = refl
+    steps-same (suc n) st =
+        steps-same n (stepCall s st a .state) ∙ ap (λ st. runFrom s st (replicate n (step b))) (step-same st)
 
-  steps-same :
-      (a b : List ℕ) → length a ≡ length b → (n : ℕ) (st : State)
-      → runFrom s st (replicate n (step a)) ≡ runFrom s st (replicate n (step b))
-  unfolding stepCall stepRefusal
-  steps-same a b e zero st = refl
-  steps-same a b e (suc n) st =
-      steps-same a b e n (result s st (step a) .state)
-      ∙ ap (λ x. runFrom s x (replicate n (step b))) (rw e refl)
+  -- ---- calls that are taken
+  module _ (t : Taken s) where
+    -- a clear of lent buffers leaves the fresh array
+    clear-gives :
+        (cells counters flags : List ℕ)
+        → let mem = withAll cells counters flags noMemory in Sized s mem → clearCall s (stateOf mem idle) ≡ giving (accepted 0) [] (fresh s)
+    unfolding clearCall fresh cleared zeroRows
+    clear-gives cells counters flags z =
+        let st = stateOf (withAll cells counters flags noMemory) idle in
+        call-done (clearQuestions s (st .memory)) [] st _ (clear-asked s t st z)
 
--- ---- calls that are taken
+    pub clear-left :
+        (cells counters flags : List ℕ) → let mem = withAll cells counters flags noMemory in
+        Sized s mem → (r : Changed) (last : Memory) → clearCall s (stateOf mem idle) ≡ changing r [] last → fresh s ≡ stateOf last idle
+    unfolding fresh
+    clear-left cells counters flags z r last e =
+        let state : fresh s ≡ stateOf last (r .cycle) = ap (λ r. r .state) (sym (clear-gives cells counters flags z) ∙ e) in
+        state ∙ ap (stateOf last) (sym (ap (λ st. st .cycle) state))
 
-module _ (s : Shape) (t : Taken s) (st : State) (z : Sized s st) where
-  cleared : clearCall s st .state ≡ fresh s
-  unfolding clearCall
-  cleared = sym (makes (clearRefusal s st) (clear-asked s t st z) (fresh s) st)
-
-  cycle-taken :
-      (matches : List ℕ) → length matches ≡ s .rows
-      → cycleCall s st matches .state ≡ runFrom s st (start ∷ replicate (lookups s) (step matches))
-  unfolding cycleCall cycleRefusal
-  cycle-taken matches l =
-      let none : cycleRefusal s st matches ≡ 0 = taken-rest s t (lengthQuestions s st ++ stepArguments s matches)
-      ∙ simp (eq-eqb _ _ (z .cells), eq-eqb _ _ (z .counters), eq-eqb _ _ (z .flags), eq-eqb _ _ l) in
-      sym (makes (cycleRefusal s st matches) none (runFrom s st (start ∷ replicate (lookups s) (step matches))) st)
+    cycle-left :
+        (mem : Memory) → Sized s mem → (matches : List ℕ) → length matches ≡ s .rows
+        → cycleCall s (stateOf mem idle) matches
+        ≡ giving (accepted 0) (lastMatches s mem) (runFrom s (stateOf mem idle) (start ∷ replicate (lookups s) (step matches)))
+    unfolding cycleCall
+    cycle-left mem z matches l =
+        let none : firstNo (cycleQuestions s mem matches) ≡ 0 = taken-rest s t (lentQuestions s mem matches ++ [])
+        ∙ simp (eq-eqb _ _ (z .cells), eq-eqb _ _ (z .counters), eq-eqb _ _ (z .flags), eq-eqb _ _ l) in
+        call-done (cycleQuestions s mem matches) matches (stateOf mem idle) _ none
 
 -- ---- a job
 
-module _ (input : List ℕ) (s : Shape) where
-  abbrev pub programs : List Call
-  programs = joined (s .rows) (λ i. program i (rowLevels input i) ∷ [])
+module _ (input : List ℕ) (s : Shape) (same : s ≡ jobShape input) (t : Taken s) where
+  abbrev programs : List Call
+  programs = programCalls input (s .rows)
 
-  abbrev pub drifts : List Call
-  drifts = joined (driftCount input) (λ i. drift (driftRow input i) (driftColumn input i) (driftLevel input i) ∷ [])
+  abbrev drifts : List Call
+  drifts = driftCalls input (driftCount input)
 
-  module _ (given : s ≡ jobShape input) (t : Taken s) (matches : List ℕ) (l : length matches ≡ s .rows) where
-    -- the cycle, on the cells that programming and drifts leave of cells that are all 0
-    job-runs :
-        let none : List ℕ = replicate (s .rows) 0 in
-        let cells = cellsAfter s (cellsAfter s (replicate (cellCount s) 0) programs) drifts in
-        jobState input ≡ runFrom s (stateOf cells none none idle) (start ∷ replicate (lookups s) (step matches))
-    unfolding jobState jobCalls run clearCall fresh
-    job-runs =
-        let none : List ℕ = replicate (s .rows) 0 in
-        let cycle = start ∷ replicate (lookups s) (step none) in
-        let clean : List ℕ = replicate (cellCount s) 0 in
-        ap
-        (λ x.
-        runFrom x (fresh x)
-        (clear
-        ∷ joined (x .rows) (λ i. program i (rowLevels input i) ∷ [])
-        ++ drifts
-        ++ start
-        ∷ replicate (lookups x) (step (replicate (x .rows) 0))))
-        (sym given)
-        ∙ ap (λ st. runFrom s st (programs ++ drifts ++ cycle)) (cleared s t (fresh s) (fresh-sized s))
-        ∙ run-append s (fresh s) (programs ++ drifts) cycle
-        ∙ ap (λ st. runFrom s st cycle)
-        (run-append s (fresh s) programs drifts
-        ∙ ap (λ st. runFrom s st drifts) (alone-joined s _ (λ i. alone-program s i (rowLevels input i)) (s .rows) clean none none)
-        ∙ alone-joined s _ (λ i. alone-drift s (driftRow input i) (driftColumn input i) (driftLevel input i)) (driftCount input)
-        (cellsAfter s clean programs) none none)
-        ∙ steps-same s none matches (length-replicate (s .rows) 0 ∙ sym l) (lookups s) _
+  -- the cycle, on the memory that programming and drifts leave of the fresh array
+  job-runs :
+      (mem next : Memory) → runFrom s (fresh s) programs ≡ stateOf mem idle → runFrom s (stateOf mem idle) drifts ≡ stateOf next idle
+      → (matches : List ℕ) → length matches ≡ s .rows
+      → jobState input ≡ runFrom s (stateOf next idle) (start ∷ replicate (lookups s) (step matches))
+  unfolding jobState jobCalls run fresh cleared zeroRows
+  job-runs mem next p d matches l =
+      let none : List ℕ = replicate (s .rows) 0 in
+      let cycle = start ∷ replicate (lookups s) (step none) in
+      ap
+      (λ s.
+      runFrom s (fresh s)
+      (clear ∷ programCalls input (s .rows) ++ drifts ++ start ∷ replicate (lookups s) (step (replicate (s .rows) 0))))
+      (sym same)
+      ∙ ap (λ r. runFrom s (r .state) (programs ++ drifts ++ cycle)) (clear-gives s t _ _ _ (fresh-sized s))
+      ∙ run-append s (fresh s) (programs ++ drifts) cycle
+      ∙ ap (λ st. runFrom s st cycle) (run-append s (fresh s) programs drifts ∙ ap (λ st. runFrom s st drifts) p ∙ d)
+      ∙ steps-same s none matches (length-replicate (s .rows) 0 ∙ sym l) (lookups s) _
 
-    -- what the calls made one after the other leave, of any state
-    pub job-ended :
-        (st : State) → Sized s st → (cells counters flags : List ℕ) → length cells ≡ cellCount s
-        → cells ≡ cellsAfter s (cellsAfter s (clearCall s st .state .cells) programs) drifts
-        → counters ≡ clearCall s st .state .counters → flags ≡ clearCall s st .state .flags
-        → cycleCall s (stateOf cells counters flags idle) matches .state ≡ jobState input
-    unfolding fresh
-    job-ended st z cells counters flags sized e f g =
-        let fresh-now = cleared s t st z in
-        let none : List ℕ = replicate (s .rows) 0 in
-        let counted : counters ≡ none = f ∙ ap (λ x. x .counters) fresh-now in
-        let flagged : flags ≡ none = g ∙ ap (λ x. x .flags) fresh-now in
-        let laid = e ∙ ap (λ x. cellsAfter s (cellsAfter s (x .cells) programs) drifts) fresh-now in
-        cycle-taken s t (stateOf cells counters flags idle)
-        record {
-          cells = sized;
-          counters = ap length counted ∙ length-replicate (s .rows) 0;
-          flags = ap length flagged ∙ length-replicate (s .rows) 0;
-        } matches l
-        ∙ (λ i. runFrom s (stateOf (laid i) (counted i) (flagged i) idle) (start ∷ replicate (lookups s) (step matches)))
-        ∙ sym job-runs
+  -- the same by what the calls give, made one after the other
+  pub job-ended :
+      (mem programmed drifted last : Memory) → fresh s ≡ stateOf mem idle
+      → runFrom s (stateOf mem idle) programs ≡ stateOf programmed idle
+      → runFrom s (stateOf programmed idle) drifts ≡ stateOf drifted idle
+      → Sized s drifted → (given : List ℕ) → length given ≡ s .rows
+      → (r : Changed) (matches : List ℕ) → cycleCall s (stateOf drifted idle) given ≡ changing r matches last
+      → drifted .cells ≡ last .cells
+      → giving (accepted 0) (jobMatches input) (jobState input) ≡ changing (doneWith (r .cycle)) matches last
+  unfolding jobMatches lastMatches
+  job-ended mem programmed drifted last f p d z given l r matches ran cells =
+      let gives = sym (cycle-left s t drifted z given l) ∙ ran in
+      let state = job-runs programmed drifted (ap (λ st. runFrom s st programs) f ∙ p) d given l ∙ ap (λ r. r .state) gives in
+      let seen : jobMatches input ≡ lastMatches s last = ap₂ (λ s st. lastMatches s (st .memory)) (sym same) state in
+      let bytes = seen ∙ ap (λ cells. lastMatches s (withCells cells last)) (sym cells) ∙ ap (λ r. r .bytes) gives in
+      ap₂ (giving (accepted 0)) bytes state

@@ -1,4 +1,4 @@
--- The proofs of this crate's functions, each in the folder of its function, and the laws that they cite.
+-- The laws that the proofs of the functions cite.
 pub mod JobCalls
-pub mod JobText
+pub mod JobSpace
 pub mod TakenJob

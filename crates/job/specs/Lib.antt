@@ -1,2 +1,2 @@
--- What a reader has to believe of the job program: its input, its text, and the whole of it, `jobText`.
+-- What a reader has to believe of the job program: the whole of it, `jobCall`.
 pub mod Job

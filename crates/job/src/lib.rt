@@ -1,23 +1,20 @@
 // One job: bytes in, text out, on lent buffers.
 mod run;
 
-use limits::shape::Checked;
-use parse::questions::check_job;
-use parse::questions::shape_of;
+use job_parse::questions::check_job;
+use job_parse::questions::shape_of;
+use job_text::print::put_head;
+use job_text::print::put_refusal;
+use job_text::print::put_rows;
 use run::run_calls;
-use text::print::put_head;
-use text::print::put_refusal;
-use text::print::put_rows;
+use shape::sizes::Checked;
 ghost use mathlib.Core.Path.{_≡_};
-ghost use mathlib.Core.Bool.{cond, _&&_};
-ghost use lib.Dec.{leb, ltb};
-ghost use lib.ListN.{length};
-ghost use Rattle.text.specs.Text.{written};
-ghost use Rattle.job.specs.Job.{jobText, roomy};
+ghost use Rattle.shape.specs.Lent.{was, left};
+ghost use Rattle.job.specs.Job.{enough, space, printed, jobCall};
 
 // Whether buffers of these lengths hold the largest job.
 fn has_room(cells: usize, counters: usize, flags: usize, matches: usize, out: usize) -> bool
-    ensures { λ r. ⌜ r ≡ (leb 16384 cells && leb 4096 counters && leb 4096 flags && leb 4096 matches && leb 200000 out && ltb out 4294967296) ⌝ }
+    ensures { λ r. ⌜ r ≡ enough cells counters flags matches out ⌝ }
 {
     if cells < 16384 {
         return false;
@@ -31,14 +28,14 @@ fn has_room(cells: usize, counters: usize, flags: usize, matches: usize, out: us
     if matches < 4096 {
         return false;
     }
-    if out < 200000 {
-        return false;
-    }
-    out < 4294967296
+    200000 <= out
 }
 
-// Runs a job. The text that it prints stands at the start of out, and its length is given. Cells, counters, flags
-// and matches are working space. Where a buffer is shorter than the largest job needs, nothing is done.
+// Runs a job and gives the length of the text that it prints, which stands at the start of out. The buffers need at least
+// the lengths of the largest job: 16,384 for cells, 4,096 each for counters, flags and matches, 200,000 for out; there is no
+// upper bound. Where one is shorter nothing is done, and the length is 0. A refused job writes its one line, and nothing
+// else. A job that is taken leaves its m × n cells, m counters, m flags and the m match bytes of its last lookup at the
+// start of those buffers. Every other byte stays as it was.
 pub fn job(
     input: &[u8],
     cells: &mut [u8],
@@ -47,8 +44,8 @@ pub fn job(
     matches: &mut [u8],
     out: &mut [u8],
 ) -> usize
-    ensures place { λ r. ⌜ r ≡ cond (roomy (now (cells .entry)) (now (counters .entry)) (now (flags .entry)) (now (matches .entry)) (now (out .entry))) (length (jobText (now (input .entry)))) 0 ⌝ }
-    ensures text { λ r. ⌜ now (out .exit) ≡ cond (roomy (now (cells .entry)) (now (counters .entry)) (now (flags .entry)) (now (matches .entry)) (now (out .entry))) (written 0 (jobText (now (input .entry))) (now (out .entry))) (now (out .entry)) ⌝ }
+    ensures { λ r. ⌜ jobCall (was input) (space (was cells) (was counters) (was flags) (was matches) (was out))
+        ≡ printed r (space (left cells) (left counters) (left flags) (left matches) (left out)) ⌝ }
 {
     if !has_room(
         cells.len(),
@@ -64,9 +61,7 @@ pub fn job(
         Checked::Taken(sizes) => {
             let shape = shape_of(input);
             let rows = shape.rows;
-            let levels = sizes.levels;
-            let columns = sizes.columns;
-            let end = rows * columns;
+            let end = rows * sizes.columns;
             let cycle = run_calls(
                 input,
                 shape,
@@ -75,7 +70,7 @@ pub fn job(
                 &mut flags[..rows],
                 &mut matches[..rows],
             );
-            let head = put_head(out, levels, columns, cycle.count);
+            let head = put_head(out, sizes.levels, sizes.columns, cycle.count);
             put_rows(out, head, &flags[..rows])
         }
     }

@@ -1,26 +1,27 @@
 // The calls of a job: clear, program every row, the drifts, one cycle.
 use array::change::drift;
-use limits::byte::wide;
+use cycle::Cycle;
+use cycle_run::run_cycle;
+use job_parse::questions::two_at;
 use parity::Shape;
-use parse::questions::two_at;
-use scrub::cycle::Cycle;
-use whole::run_cycle;
+use shape::byte::wide;
 ghost use mathlib.Core.Path.{_≡_};
-ghost use mathlib.Core.List.{_∷_, []};
-ghost use Prim.Native.Nat.{ℕ};
 ghost use lib.ListN.{length};
-ghost use Rattle.parity.specs.Lists.{joined};
-ghost use Rattle.array.specs.Arrays.{cellCount};
-ghost use Rattle.scrub.specs.Record.{idle};
-ghost use Rattle.scrub.specs.Run.{Call, program, drift as driftCall, runFrom};
-ghost use Rattle.scrub.specs.Methods.{stateOf};
-ghost use Rattle.parse.specs.Parse.{jobShape, rowLevels, driftCount, driftStart, driftRow, driftColumn, driftLevel, jobRefusal};
-ghost use Rattle.job.specs.Job.{jobState};
+ghost use Rattle.shape.specs.Answers.{accepted, giving};
+ghost use Rattle.shape.specs.Lent.{was, left};
+ghost use Rattle.array_memory.specs.Memory.{Memory, withCells, withAll, noMemory, Sized};
+ghost use Rattle.cycle.specs.Record.{idle};
+ghost use Rattle.cycle.specs.Calls.{stateOf};
+ghost use Rattle.cycle.specs.Run.{runFrom};
+ghost use Rattle.cycle.specs.Methods.{changing, doneWith};
+ghost use Rattle.job_parse.specs.Parse.{jobShape, driftCount, driftStart, jobRefusal};
+ghost use Rattle.job.specs.Job.{programCalls, driftCalls, jobState, jobMatches};
 
 // Programs every row with its levels.
 fn program_rows(input: &[u8], shape: Shape, cells: &mut [u8])
-    requires { ⌜ (jobRefusal (now input) ≡ 0) × (shape ≡ jobShape (now input)) × (length (now cells) ≡ cellCount shape) ⌝ }
-    ensures { λ _. ⌜ now (cells .exit) ≡ runFrom shape (stateOf (now (cells .entry)) [] [] idle) (joined (shape .rows) (λ i. program i (rowLevels (now (input .entry)) i) ∷ [])) .cells ⌝ }
+    requires { ⌜ (jobRefusal (now input) ≡ 0) × (shape ≡ jobShape (now input)) ⌝ }
+    ensures { λ _. ⌜ ((mem : Memory) → runFrom shape (stateOf (withCells (was cells) mem) idle) (programCalls (was input) (shape .rows))
+        ≡ stateOf (withCells (left cells) mem) idle) ⌝ }
 {
     let rows = shape.rows;
     let width = shape.width;
@@ -36,8 +37,9 @@ fn program_rows(input: &[u8], shape: Shape, cells: &mut [u8])
 
 // Applies the drifts, which stand from a place of the input on to its end.
 fn drift_cells(input: &[u8], shape: Shape, from: usize, cells: &mut [u8])
-    requires { ⌜ (jobRefusal (now input) ≡ 0) × (shape ≡ jobShape (now input)) × (length (now cells) ≡ cellCount shape) × (from ≡ driftStart (now input) 0) ⌝ }
-    ensures { λ _. ⌜ now (cells .exit) ≡ runFrom shape (stateOf (now (cells .entry)) [] [] idle) (joined (driftCount (now (input .entry))) (λ i. driftCall (driftRow (now (input .entry)) i) (driftColumn (now (input .entry)) i) (driftLevel (now (input .entry)) i) ∷ [])) .cells ⌝ }
+    requires { ⌜ (jobRefusal (now input) ≡ 0) × (from ≡ driftStart (now input) 0) ⌝ }
+    ensures { λ _. ⌜ ((mem : Memory) → runFrom shape (stateOf (withCells (was cells) mem) idle) (driftCalls (was input) (driftCount (was input)))
+        ≡ stateOf (withCells (left cells) mem) idle) ⌝ }
 {
     let mut at = from;
     while at < input.len() {
@@ -59,9 +61,9 @@ pub(crate) fn run_calls(
     matches: &mut [u8],
 ) -> Cycle
     requires { ⌜ (jobRefusal (now input) ≡ 0) × (shape ≡ jobShape (now input)) ⌝ }
-    requires { ⌜ (length (now cells) ≡ cellCount shape) × (length (now counters) ≡ shape .rows) × (length (now flags) ≡ shape .rows) × (length (now matches) ≡ shape .rows) ⌝ }
-    ensures ended { λ r. ⌜ r ≡ jobState (now (input .entry)) .cycle ⌝ }
-    ensures flagged { λ r. ⌜ now (flags .exit) ≡ jobState (now (input .entry)) .flags ⌝ }
+    requires { ⌜ Sized shape (withAll (now cells) (now counters) (now flags) noMemory) × (length (now matches) ≡ shape .rows) ⌝ }
+    ensures { λ r. ⌜ giving (accepted 0) (jobMatches (was input)) (jobState (was input))
+        ≡ changing (doneWith r) (left matches) (withAll (left cells) (left counters) (left flags) noMemory) ⌝ }
 {
     let from = 13 + shape.rows * shape.width;
     Cycle::IDLE.clear(shape, cells, counters, flags);

@@ -1,31 +1,24 @@
-// The paper's figures for Example 1 (k = 50), by the library: Table I for q = 8 and q = 16, the ones of the
-// check matrix with more check columns (footnote 6), and the reads of the naive way. What it prints is held to
-// the paper's numbers in the file stdout.
+// The paper's figures for Example 1 (m = 512, k = 50), by the library: the reads of the naive way, Table I for q = 8
+// and q = 16, and the ones of the check matrix with more check columns (footnote 6). What it prints is held to the
+// paper's numbers in the file stdout.
+use acam::matrix::matrix_of;
+use acam::order::ones;
+use cycle::Cycle;
+use cycle_run::run_cycle;
 use libc::STDOUT_FILENO;
-use limits::answer::Answer;
-use limits::shape::Checked;
-use limits::shape::check_shape;
-use matrix::columns::column_at;
-use matrix::order::ones;
-use matrix::weight::matrix_ones;
 use parity::Shape;
-use scrub::cycle::Cycle;
-use whole::run_cycle;
+use shape::sizes::Checked;
+use shape::sizes::check_shape;
+ghost use Prim.Native.Nat.{_*_, _≤_};
+ghost use lib.ListN.{length};
 
-fn number(answer: Answer) -> usize {
-    match answer {
-        Answer::Is(value) => value,
-        Answer::Refused(_) => 0,
-    }
-}
-
-fn example(digits: usize, errors: usize, width: usize) -> Shape {
+fn example(digits: usize, errors: usize, width: usize, rows: usize) -> Shape {
     Shape {
         radix: 2,
         digits,
         errors,
         width,
-        rows: 1,
+        rows,
     }
 }
 
@@ -55,55 +48,76 @@ fn put(word: &[u8], value: usize) {
     io::print_decimal(STDOUT_FILENO, value as u64);
 }
 
-// One row of Table I.
-fn table_row(errors: usize) {
-    let eight = example(3, errors, 50);
-    match check_shape(eight) {
-        Checked::Refused(_) => {}
-        Checked::Taken(sizes) => {
-            put(b"tau ", errors);
-            put(b" r ", sizes.checks);
-            put(b" n ", sizes.columns);
-            put(b" ones ", number(matrix_ones(eight)));
-            put(b" q8 ", lookups_made(eight, sizes.columns));
-            put(
-                b" q16 ",
-                lookups_made(example(4, errors, 50), sizes.columns),
-            );
-            io::write_all(STDOUT_FILENO, b"\n");
-        }
-    }
+fn end_line() {
+    io::write_all(STDOUT_FILENO, b"\n");
 }
 
-// The ones of the first 50 rule columns of a shape.
-fn rule_ones(shape: Shape) -> usize {
+// The ones of a part of a check matrix, column after column.
+fn count_ones(matrix: &[u8]) -> usize
+    requires { ⌜ length (now matrix) ≤ 255 ⌝ }
+    ensures { λ r. ⌜ r ≤ 8 * 255 ⌝ }
+{
     let mut sum: usize = 0;
-    for place in 0..50 {
-        let column = number(column_at(shape, place));
-        sum += ones((column % 256) as u8) % 16;
+    let mut j: usize = 0;
+    while j < matrix.len() {
+        sum += ones(matrix[j]);
+        j += 1;
     }
     sum
 }
 
-// The ones of 50 rule columns and r check columns, by a wider shape that has r of them.
+// The naive way reads the thresholds of all m × k cells.
+fn naive_reads(shape: Shape) {
+    match check_shape(shape) {
+        Checked::Refused(_) => {}
+        Checked::Taken(_) => {
+            put(b"naive reads ", shape.rows * shape.width);
+            end_line();
+        }
+    }
+}
+
+// One row of Table I.
+fn table_row(errors: usize) {
+    let eight = example(3, errors, 50, 1);
+    match check_shape(eight) {
+        Checked::Refused(_) => {}
+        Checked::Taken(sizes) => {
+            let checks = sizes.checks;
+            let columns = sizes.columns;
+            let matrix = matrix_of(eight, checks);
+            put(b"tau ", errors);
+            put(b" r ", checks);
+            put(b" n ", columns);
+            put(b" ones ", count_ones(&matrix));
+            put(b" q8 ", lookups_made(eight, columns));
+            put(b" q16 ", lookups_made(example(4, errors, 50, 1), columns));
+            end_line();
+        }
+    }
+}
+
+// The ones of 50 rule columns and r check columns, each of which has one, by the least shape that has r of them.
 fn wider(width: usize) {
-    let shape = example(3, 2, width);
+    let shape = example(3, 2, width, 1);
     match check_shape(shape) {
         Checked::Refused(_) => {}
         Checked::Taken(sizes) => {
-            put(b"tau 2 r ", sizes.checks);
-            put(b" ones ", rule_ones(shape) % 1024 + sizes.checks % 16);
-            io::write_all(STDOUT_FILENO, b"\n");
+            let checks = sizes.checks;
+            let matrix = matrix_of(shape, checks);
+            put(b"tau 2 r ", checks);
+            put(b" ones ", count_ones(&matrix[..50]) + checks);
+            end_line();
         }
     }
 }
 
 fn main() {
-    put(b"naive reads ", 512 * 50);
-    io::write_all(STDOUT_FILENO, b"\n");
+    naive_reads(example(3, 1, 50, 512));
     table_row(1);
     table_row(2);
     table_row(3);
+    // footnote 6 goes on to r = 11; document 01 has at most 8 check columns, since a column is a byte
     wider(58);
     wider(121);
 }

@@ -13,7 +13,7 @@ use Rattle.parity.specs.Lists.{sumOver, differences}
 use Rattle.parity.specs.Matrix.{bit}
 use Rattle.parity.proofs.Remainders.{Same, same-below}
 use Rattle.parity.proofs.Sums.{checkSum}
-use Rattle.parity.proofs.ListLaws.{Each, Pairwise, pairs-head, pairs-tail}
+use Rattle.parity.proofs.ListLaws.{All, Each, Pairwise, pairs-head, pairs-tail}
 
 -- a changed digit and its column
 pub record Change (ρ : ℕ) : Type 0 where
@@ -26,15 +26,10 @@ pub record Change (ρ : ℕ) : Type 0 where
 abbrev pub held : {ρ : ℕ} → ℕ → Change ρ → ℕ
 held ℓ e = bit ℓ (e .column)
 
-module _ {A : Type 0} where
-  -- what holds of each, and of each two
-  abbrev pub All : (A → Type 0) → List A → Type 0
-  All P [] = Unit {0}
-  All P (e ∷ es) = P e × All P es
-
-  abbrev pub AllPairs : (A → A → Type 0) → List A → Type 0
-  AllPairs R [] = Unit {0}
-  AllPairs R (e ∷ es) = All (R e) es × AllPairs R es
+-- what holds of each two
+abbrev pub AllPairs : {A : Type 0} → (A → A → Type 0) → List A → Type 0
+AllPairs R [] = Unit {0}
+AllPairs R (e ∷ es) = All (R e) es × AllPairs R es
 
 -- The changed digits where f is the digit of a cell: no more of them than changed cells, and none only where all digits agree; they alone
 -- make the check sums differ; what holds of the columns holds of theirs.

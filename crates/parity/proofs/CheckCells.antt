@@ -3,13 +3,14 @@ use mathlib.Core.Path.{_≡_, refl, sym, _∙_, ap, ap₂}
 use mathlib.Core.Logic.{_≢_}
 use mathlib.Core.List.{List, [], _∷_}
 use Prim.Native.Nat.{ℕ, zero, suc, _+_, _*_, _/_, _%_, _^_, _<_, suc-le-suc}
-use native.Mathlib.Nat.{suc-inj, suc-ne-zero, zero-lt-suc, le-of-suc-le-suc, not-suc-le-zero, zero-mul, one-mul, zero-add, add-zero, div-self, zero-div, pow-suc, mul-mod-left, mul-div-cancel}
+use native.Mathlib.Nat.{suc-inj, suc-ne-zero, zero-lt-suc, le-of-suc-le-suc, not-suc-le-zero, zero-mul}
+use native.Mathlib.Nat.{one-mul, zero-add, add-zero, div-self, pow-suc, mul-mod-left, mul-div-cancel}
 use lib.ListN.{length, getD}
 use lib.Pow.{pow-pos}
 use Rattle.parity.specs.Shape.{digit}
 use Rattle.parity.specs.Matrix.{bit, checkColumns}
 use Rattle.parity.proofs.Digits.{digit-zero, digit-suc}
-use Rattle.parity.proofs.Sums.{checkSum}
+use Rattle.parity.proofs.Sums.{bit-beyond, checkSum}
 use Rattle.parity.proofs.ListLaws.{length-tabulate, getD-tabulate}
 
 -- columns without a one in the check row add nothing
@@ -39,15 +40,11 @@ pub bit-own : (ℓ : ℕ) → bit ℓ (2 ^ ℓ) ≡ 1
 unfolding digit
 bit-own ℓ = ap (λ x. x % 2) (div-self (pow-pos ℓ))
 
-bit-none : (ℓ : ℕ) → bit ℓ 0 ≡ 0
-unfolding digit
-bit-none ℓ = ap (λ x. x % 2) (zero-div (2 ^ ℓ))
-
 -- .. and its zeros
 pub bit-other : (ℓ i : ℕ) → i ≢ ℓ → bit ℓ (2 ^ i) ≡ 0
 bit-other zero zero ne = absurd (ne refl)
 bit-other zero (suc i) ne = digit-zero 2 (2 ^ suc i) ∙ ap (λ x. x % 2) (pow-suc 2 i) ∙ mul-mod-left (2 ^ i) 2
-bit-other (suc ℓ) zero ne = digit-suc 2 ℓ 1 ∙ bit-none ℓ
+bit-other (suc ℓ) zero ne = digit-suc 2 ℓ 1 ∙ bit-beyond 0 ℓ (pow-pos ℓ)
 bit-other (suc ℓ) (suc i) ne =
     digit-suc 2 ℓ (2 ^ suc i) ∙ ap (bit ℓ) (ap (λ x. x / 2) (pow-suc 2 i) ∙ mul-div-cancel (2 ^ i) (zero-lt-suc 1))
     ∙ bit-other ℓ i (λ p. ne (ap suc p))

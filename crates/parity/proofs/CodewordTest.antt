@@ -11,17 +11,19 @@ use Rattle.parity.specs.Lists.{every, everyTo}
 use Rattle.parity.specs.Shape.{levels, checks, columns}
 use Rattle.parity.specs.Matrix.{support}
 use Rattle.parity.specs.Codeword.{digitSum, Codeword, isCodeword}
+use Rattle.parity.specs.Claims.{CodewordClaim}
 use Rattle.parity.specs.declared.Shape.{Shape}
 use Rattle.parity.proofs.ListLaws.{every-at, every-passes, everyTo-at, everyTo-passes}
 
--- the three parts of the test
+-- the three parts of the test: n cells, all below q ..
 abbrev isSized : Shape → List ℕ → Bool
 isSized s row = eqb (length row) (columns s)
 
 abbrev isBelow : Shape → List ℕ → Bool
 isBelow s row = every (λ v. ltb v (levels s)) row
 
-abbrev isBalanced : Shape → List ℕ → ℕ → ℕ → Bool
+-- the digits i of check row ℓ sum to 0 mod ρ
+abbrev pub isBalanced : Shape → List ℕ → ℕ → ℕ → Bool
 isBalanced s row ℓ i = eqb (digitSum (s .radix) i (support s ℓ) row % s .radix) 0
 
 pub codeword-test : (s : Shape) (row : List ℕ) → isCodeword s row ≡ true → Codeword s row
@@ -44,3 +46,6 @@ codeword-passes s row c =
       every-passes (λ v. ltb v (levels s)) row 0 (λ j h. lt-ltb _ _ (c .below j (omega arith))),
       everyTo-passes (checks s) _ (λ ℓ h. everyTo-passes (s .digits) (isBalanced s row ℓ) (λ i k. eq-eqb _ _ (c .balanced ℓ i h k))),
     )
+
+pub codewordClaim : CodewordClaim
+codewordClaim s row = (codeword-test s row, codeword-passes s row)

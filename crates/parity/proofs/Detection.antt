@@ -1,21 +1,21 @@
--- Up to τ changed digits do not go unseen: if every check row balances, there are none. A row that holds exactly one of them does not balance;
--- one or two different columns have such a row, and three of odd weight have one, or two rows whose difference is one. Assumes nothing.
+-- Up to τ changed digits do not go unseen: if every check row balances, there are none. One that holds exactly one of them does not balance;
+-- one or two different columns have such a check row, and three of odd weight have one, or two whose difference is one. Assumes nothing.
 use mathlib.Core.Path.{_≡_, refl, sym, _∙_, ap}
 use mathlib.Core.Logic.{_⊎_, inl, inr, _≢_}
 use mathlib.Core.List.{List, [], _∷_}
 use Prim.Native.Nat.{ℕ, zero, suc, _+_, _-_, _*_, _%_, _^_, _≤_, _<_}
-use native.Mathlib.Nat.{eq-zero-or-pos, add-mul, sub-add-cancel, div-eq-of-lt, ne-of-gt}
+use native.Mathlib.Nat.{eq-zero-or-pos, add-mul, sub-add-cancel, ne-of-gt}
 use native.Mathlib.Decide.{decLt}
 use native.Mathlib.Omega.{arith}
 use lib.ListN.{length}
 use lib.Pow.{pow-mono, pow-pos}
 use Rattle.parity.specs.Lists.{sumOver, sumTo}
-use Rattle.parity.specs.Shape.{digit}
 use Rattle.parity.specs.Matrix.{bit, weight}
+use Rattle.parity.proofs.ListLaws.{All}
 use Rattle.parity.proofs.Remainders.{Same, same-minus}
 use Rattle.parity.proofs.Digits.{digits-equal}
-use Rattle.parity.proofs.Sums.{bit-below}
-use Rattle.parity.proofs.Changes.{Change, held, All, AllPairs}
+use Rattle.parity.proofs.Sums.{bit-below, bit-beyond}
+use Rattle.parity.proofs.Changes.{Change, held, AllPairs}
 
 -- ---- columns
 
@@ -23,11 +23,6 @@ use Rattle.parity.proofs.Changes.{Change, held, All, AllPairs}
 pub told-apart : (r : ℕ) {c d : ℕ} → c < 2 ^ r → d < 2 ^ r → c ≢ d → ((ℓ : ℕ) → ℓ < r → bit ℓ c + bit ℓ d ≡ 1 → ⊥) → ⊥
 told-apart r {c} {d} hc hd apart none =
     apart (digits-equal 2 r (omega arith) hc hd (λ ℓ lt. omega (arith, none ℓ lt, bit-below ℓ c, bit-below ℓ d)))
-
--- a column has no ones in rows beyond its own
-pub bit-beyond : (c ℓ : ℕ) → c < 2 ^ ℓ → bit ℓ c ≡ 0
-unfolding digit
-bit-beyond c ℓ h = ap (λ x. x % 2) (div-eq-of-lt h)
 
 even-sums : (n : ℕ) (f g h : ℕ → ℕ) → ((ℓ : ℕ) → (f ℓ + g ℓ + h ℓ) % 2 ≡ 0) → (sumTo n f + sumTo n g + sumTo n h) % 2 ≡ 0
 even-sums zero f g h even = refl
@@ -86,17 +81,17 @@ module _ {ρ : ℕ} where
 -- what is asked of a column
 pub record Column (τ r c : ℕ) : Type 0 where
   pub nonzero : 0 < c
-  pub inRows : c < 2 ^ r
+  pub inChecks : c < 2 ^ r
   pub odd : τ ≡ 3 → weight c % 2 ≡ 1
 
 module _ {ρ : ℕ} (pos : 0 < ρ) (r : ℕ) where
-  -- Three changes, and a row that holds one of the first two, so the third with it. Then each row holds none or two of the three: a row with
-  -- one does not balance, and nor does one with all three, less the given row.
+  -- Three changes, and a check row that holds one of the first two, so the third with it. Then each check row holds none or two of the three: one
+  -- that holds one does not balance, and nor does one that holds all three, less the given one.
   three-even :
       (a b c : Change ρ) → All (λ e. e .column < 2 ^ r) (a ∷ b ∷ c ∷ []) → ((ℓ : ℕ) → ℓ < r → Balanced (held ℓ) (a ∷ b ∷ c ∷ []))
       → (ℓ : ℕ) → ℓ < r → held ℓ a + held ℓ b ≡ 1 → (weight (a .column) + weight (b .column) + weight (c .column)) % 2 ≡ 0
   unfolding weight
-  three-even a b c inRows rows ℓ₀ lt₀ first = even-sums 8 (λ ℓ. held ℓ a) (λ ℓ. held ℓ b) (λ ℓ. held ℓ c) (λ ℓ. even ℓ (decLt ℓ r))
+  three-even a b c inChecks balance ℓ₀ lt₀ first = even-sums 8 (λ ℓ. held ℓ a) (λ ℓ. held ℓ b) (λ ℓ. held ℓ c) (λ ℓ. even ℓ (decLt ℓ r))
     where
       abc : List (Change ρ)
       abc = a ∷ b ∷ c ∷ []
@@ -105,12 +100,12 @@ module _ {ρ : ℕ} (pos : 0 < ρ) (r : ℕ) where
       bits ℓ = omega (arith, bit-below ℓ (a .column), bit-below ℓ (b .column), bit-below ℓ (c .column))
 
       not-one : (ℓ : ℕ) → ℓ < r → sumOver abc (held ℓ) ≢ 1
-      not-one ℓ lt one = one-unbalanced (held ℓ) abc one (rows ℓ lt)
+      not-one ℓ lt one = one-unbalanced (held ℓ) abc one (balance ℓ lt)
 
       not-all : (ℓ : ℕ) → ℓ < r → sumOver abc (held ℓ) ≢ 3
       not-all ℓ lt all =
           one-unbalanced (λ e. held ℓ e - held ℓ₀ e) abc (omega (arith, bits ℓ, bits ℓ₀, not-one ℓ₀ lt₀))
-          (balanced-minus pos (held ℓ) (held ℓ₀) abc (omega (arith, bits ℓ, bits ℓ₀)) (rows ℓ lt) (rows ℓ₀ lt₀))
+          (balanced-minus pos (held ℓ) (held ℓ₀) abc (omega (arith, bits ℓ, bits ℓ₀)) (balance ℓ lt) (balance ℓ₀ lt₀))
 
       even : (ℓ : ℕ) → Dec (ℓ < r) → (held ℓ a + held ℓ b + held ℓ c) % 2 ≡ 0
       even ℓ (no out) =
@@ -122,18 +117,18 @@ module _ {ρ : ℕ} (pos : 0 < ρ) (r : ℕ) where
   pub unchanged :
       {τ : ℕ} (es : List (Change ρ)) → length es ≤ τ → τ ≤ 3 → All (λ e. Column τ r (e .column)) es
       → AllPairs (λ d e. 2 ≤ τ → d .column ≢ e .column) es → ((ℓ : ℕ) → ℓ < r → Balanced (held ℓ) es) → length es ≡ 0
-  unchanged [] few most good apart rows = refl
-  unchanged (a ∷ []) few most good apart rows =
+  unchanged [] few most good apart balance = refl
+  unchanged (a ∷ []) few most good apart balance =
       absurd
-      (told-apart r (good .0 .inRows) (pow-pos r) (ne-of-gt (good .0 .nonzero))
-      (λ ℓ lt one. one-unbalanced (held ℓ) (a ∷ []) (omega (arith, bit-beyond 0 ℓ (pow-pos ℓ))) (rows ℓ lt)))
-  unchanged (a ∷ b ∷ []) few most good apart rows =
+      (told-apart r (good .0 .inChecks) (pow-pos r) (ne-of-gt (good .0 .nonzero))
+      (λ ℓ lt one. one-unbalanced (held ℓ) (a ∷ []) (omega (arith, bit-beyond 0 ℓ (pow-pos ℓ))) (balance ℓ lt)))
+  unchanged (a ∷ b ∷ []) few most good apart balance =
       absurd
-      (told-apart r (good .0 .inRows) (good .1 .0 .inRows) (apart .0 .0 few)
-      (λ ℓ lt one. one-unbalanced (held ℓ) (a ∷ b ∷ []) (omega arith) (rows ℓ lt)))
-  unchanged {τ} (a ∷ b ∷ c ∷ []) few most good apart rows =
+      (told-apart r (good .0 .inChecks) (good .1 .0 .inChecks) (apart .0 .0 few)
+      (λ ℓ lt one. one-unbalanced (held ℓ) (a ∷ b ∷ []) (omega arith) (balance ℓ lt)))
+  unchanged {τ} (a ∷ b ∷ c ∷ []) few most good apart balance =
       let e : τ ≡ 3 = omega arith in
       absurd
-      (told-apart r (good .0 .inRows) (good .1 .0 .inRows) (apart .0 .0 (omega arith))
-      (λ ℓ lt one. omega (arith, three-even a b c (omega arith) rows ℓ lt one, good .0 .odd e, good .1 .0 .odd e, good .1 .1 .0 .odd e)))
-  unchanged (a ∷ b ∷ c ∷ d ∷ es) few most good apart rows = absurd (omega arith)
+      (told-apart r (good .0 .inChecks) (good .1 .0 .inChecks) (apart .0 .0 (omega arith))
+      (λ ℓ lt one. omega (arith, three-even a b c (omega arith) balance ℓ lt one, good .0 .odd e, good .1 .0 .odd e, good .1 .1 .0 .odd e)))
+  unchanged (a ∷ b ∷ c ∷ d ∷ es) few most good apart balance = absurd (omega arith)

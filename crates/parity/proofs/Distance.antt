@@ -39,7 +39,7 @@ module _ (s : Shape) (m : MatrixClaim s) where
         let none : length (found .entries) ≡ 0 =
         unchanged pos (checks s) (found .entries) (omega (arith, found .few)) most
         (found .each (Column (s .errors) (checks s))
-        (λ i lt. let h = inside i lt in record { nonzero = m .nonzero i h; inRows = m .inRows i h; odd = λ three. m .odd three i h }))
+        (λ i lt. let h = inside i lt in record { nonzero = m .nonzero i h; inChecks = m .inChecks i h; odd = λ three. m .odd three i h }))
         (found .pairs (λ c e. 2 ≤ s .errors → c ≢ e) (λ i k ik lt two. m .distinct two i k ik (inside k lt)))
         (λ ℓ lt. same-minus pos (same-eq (found .sums ℓ)) (same-trans (check-zero cy ℓ d lt ld) (same-sym (check-zero cx ℓ d lt ld))))
         in

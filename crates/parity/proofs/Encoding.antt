@@ -18,7 +18,7 @@ use Rattle.parity.proofs.Remainders.{same-eq, same-sym, same-trans, sam
 use Rattle.parity.proofs.Digits.{digit-below, digits-equal, number-below, digit-number}
 use Rattle.parity.proofs.Sums.{digitSum-checkSum, checkSum-append}
 use Rattle.parity.proofs.Taken.{limits}
-use Rattle.parity.proofs.MatrixFacts.{matrixClaim}
+use Rattle.parity.proofs.MatrixFacts.{rules-sized}
 use Rattle.parity.proofs.CheckCells.{checkColumns-sized, checkSum-checkColumns}
 use Rattle.parity.proofs.ListLaws.{length-tabulate, getD-tabulate, Each, each-append, each-tabulate}
 
@@ -57,11 +57,11 @@ module _ (s : Shape) (pos : 0 < s .radix) where
 -- For a shape with k rule columns.
 module _ (s : Shape) (pos : 0 < s .radix) (sized : length (ruleColumns (s .errors) (checks s) (s .width)) ≡ s .width) where
   -- the sum over a check row: its rule cells, and its own check cell
-  row-sum :
+  check-sum :
       (rule check : List ℕ) → length rule ≡ s .width → length check ≡ checks s → (ℓ t : ℕ) → ℓ < checks s
       → digitSum (s .radix) t (support s ℓ) (rule ++ check) ≡ ruleSum s rule ℓ t + digit (s .radix) t (getD check ℓ 0)
   unfolding support matrix
-  row-sum rule check er ec ℓ t lt =
+  check-sum rule check er ec ℓ t lt =
       let cs : List ℕ = ruleColumns (s .errors) (checks s) (s .width) in
       let ds : List ℕ = checkColumns (checks s) in
       let ev : length rule ≡ length cs = er ∙ sym sized in
@@ -77,7 +77,7 @@ module _ (s : Shape) (pos : 0 < s .radix) (sized : length (ruleColumns (s .error
         below = λ j lt. each-append level rule check (rw er below) checkBelow j (rw (← encode-sized s rule er) at lt);
         balanced = λ ℓ t lt ht.
             ap (λ x. x % s .radix)
-            (row-sum rule check er (length-tabulate (checks s) (checkCell s rule)) ℓ t lt ∙ ap (λ x. ruleSum s rule ℓ t + x) (checkDigits ℓ t lt ht))
+            (check-sum rule check er (length-tabulate (checks s) (checkCell s rule)) ℓ t lt ∙ ap (λ x. ruleSum s rule ℓ t + x) (checkDigits ℓ t lt ht))
             ∙ balances (ruleSum s rule ℓ t) pos;
       }
     where
@@ -105,9 +105,10 @@ module _ (s : Shape) (pos : 0 < s .radix) (sized : length (ruleColumns (s .error
 
       cell : (ℓ : ℕ) → ℓ < checks s → getD check ℓ 0 ≡ checkCell s rule ℓ
       cell ℓ lt =
-          digits-equal (s .radix) (s .digits) pos (rw (← getD-append-add rule check ℓ 0) (c .below (length rule + ℓ) (omega arith))) (check-cell-below s pos rule ℓ)
+          digits-equal (s .radix) (s .digits) pos
+          (rw (← getD-append-add rule check ℓ 0) (c .below (length rule + ℓ) (omega arith))) (check-cell-below s pos rule ℓ)
           (λ t ht. balances-only (ruleSum s rule ℓ t) (digit (s .radix) t (getD check ℓ 0)) pos (digit-below (s .radix) t (getD check ℓ 0) pos)
-          (ap (λ x. x % s .radix) (sym (row-sum rule check er ec ℓ t lt)) ∙ c .balanced ℓ t lt ht)
+          (ap (λ x. x % s .radix) (sym (check-sum rule check er ec ℓ t lt)) ∙ c .balanced ℓ t lt ht)
           ∙ sym (check-cell-digit s pos rule ℓ t ht))
 
   pub encoding : (row : List ℕ) → length row ≡ columns s → Codeword s row ↔ ((row ≡ encode s (take (s .width) row)) × Below (levels s) (s .width) row)
@@ -123,21 +124,14 @@ module _ (s : Shape) (pos : 0 < s .radix) (sized : length (ruleColumns (s .error
       cut : length (take (s .width) row) ≡ s .width
       cut = length-take-le (s .width) row (omega arith)
 
--- a shape taken has k rule columns
-rule-sized : (s : Shape) → Taken s → length (ruleColumns (s .errors) (checks s) (s .width)) ≡ s .width
-unfolding matrix columns
-rule-sized s t =
-    let split = length-append (ruleColumns (s .errors) (checks s) (s .width)) (checkColumns (checks s)) in
-    omega (arith, split, matrixClaim s t .sized, checkColumns-sized (checks s))
-
 radix-pos : (s : Shape) → Taken s → 0 < s .radix
 radix-pos s t = omega (arith, limits s t .radixLow)
 
 pub encodedClaim : EncodedClaim
-encodedClaim s t = encoded s (radix-pos s t) (rule-sized s t)
+encodedClaim s t = encoded s (radix-pos s t) (rules-sized s t)
 
 pub onlyClaim : OnlyClaim
-onlyClaim s t = only s (radix-pos s t) (rule-sized s t)
+onlyClaim s t = only s (radix-pos s t) (rules-sized s t)
 
 pub encodingClaim : EncodingClaim
-encodingClaim s t = encoding s (radix-pos s t) (rule-sized s t)
+encodingClaim s t = encoding s (radix-pos s t) (rules-sized s t)

@@ -6,7 +6,7 @@ use Prim.Native.Nat.{ℕ, suc, _+_, _≤_, _<_}
 use native.Mathlib.Nat.{add-zero}
 use native.Mathlib.Numerals.{add-one}
 use native.Mathlib.Omega.{arith}
-use lib.ListN.{length, getD, take, drop, set, length-append, length-drop}
+use lib.ListN.{length, getD, take, drop, set}
 use lib.Seq.{take-all, drop-cons, drop-length, set-at, append-snoc, getD-append-add, getD-drop}
 use Rattle.parity.specs.Lists.{tabulate, filledFrom}
 use Rattle.parity.proofs.ListLaws.{length-tabulate}
@@ -15,12 +15,6 @@ module _ {ℓ} {A : Type ℓ} where
   -- the first i places are f's, the rest as they were
   abbrev pub filled : (ℕ → A) → List A → ℕ → List A
   filled f l i = tabulate i f ++ drop i l
-
-  pub filled-none : (f : ℕ → A) (l : List A) → l ≡ filled f l 0
-  filled-none f l = refl
-
-  pub filled-length : (f : ℕ → A) (l : List A) (i : ℕ) → i ≤ length l → length (filled f l i) ≡ length l
-  filled-length f l i h = omega (arith, length-append (tabulate i f) (drop i l), length-tabulate i f, length-drop i l)
 
   -- what stands at a place that is not written yet
   pub filled-rest : (f : ℕ → A) (l : List A) (i j : ℕ) (d : A) → getD (filled f l i) (i + j) d ≡ getD l (i + j) d

@@ -15,4 +15,6 @@ pub mod Changes
 pub mod Detection
 pub mod Distance
 pub mod CodewordTest
+pub mod MatrixOnes
+pub mod Longest
 pub mod Marked

@@ -1,18 +1,18 @@
--- Laws of specs/Lists.antt's words: tabulate, joined, keep, every and everyTo, and of what holds of each entry of a list of numbers, of
+-- Laws of specs/Lists.antt's words: tabulate, joined, keep, sumOver, every and everyTo, and of what holds of each entry of a list of numbers, of
 -- each two in their order, and of one among them. Assumes nothing.
-use mathlib.Core.Path.{_≡_, refl, ap, ap₂, _∙_}
+use mathlib.Core.Path.{_≡_, refl, sym, ap, ap₂, _∙_}
 use mathlib.Core.Logic.{_⊎_, inl, inr, ⊎-elim}
 use mathlib.Core.Bool.{Bool, true, false, cond, _&&_, and-eq-true-iff}
 use mathlib.Core.List.{List, [], _∷_, _++_}
 use Prim.Native.Nat.{ℕ, zero, suc, _+_, _≤_, _<_, suc-le-suc}
-use native.Mathlib.Nat.{le-of-suc-le-suc, not-suc-le-zero, eq-or-lt-of-le, zero-lt-suc}
+use native.Mathlib.Nat.{le-of-suc-le-suc, not-suc-le-zero, eq-or-lt-of-le, zero-lt-suc, zero-add}
 use native.Mathlib.Numerals.{add-one}
 use native.Mathlib.Omega.{arith}
 use lib.Dec.{eqb, ltb}
 use lib.ListN.{length, getD, take, replicate, length-append, length-take, replicate-append-replicate, List·getD-append}
 use lib.Seq.{getD-take, getD-append-add, getD-at}
 use borrow.Author.Tests.{eqb-true, ltb-true, ltb-false}
-use Rattle.parity.specs.Lists.{tabulate, joined, keep, every, everyTo, differences}
+use Rattle.parity.specs.Lists.{tabulate, joined, keep, every, everyTo, sumOver, differences}
 use Rattle.parity.specs.Claims.{Among}
 
 module _ {ℓ} {A : Type ℓ} where
@@ -50,6 +50,12 @@ module _ {ℓ} {A : Type ℓ} where
   tabulate-constant (suc n) a =
       ap (λ xs. xs ++ (a ∷ [])) (tabulate-constant n a) ∙ replicate-append-replicate n 1 a ∙ ap (λ m. replicate m a) (add-one n)
 
+  -- ---- sumOver
+
+  pub sum-append : (g : A → ℕ) (xs ys : List A) → sumOver (xs ++ ys) g ≡ sumOver xs g + sumOver ys g
+  sum-append g [] ys = sym (zero-add (sumOver ys g))
+  sum-append g (x ∷ xs) ys = omega (arith, sum-append g xs ys)
+
   -- ---- a test of every element, and its passing at each place
 
   pub every-at : (p : A → Bool) (xs : List A) (d : A) → every p xs ≡ true → (j : ℕ) → j < length xs → p (getD xs j d) ≡ true
@@ -83,7 +89,13 @@ grid-at m n p e (suc i) zero low high low′ high′ = absurd (not-suc-le-zero l
 grid-at m n p e (suc i) (suc j) low high low′ high′ =
     everyTo-at n (λ j. p (suc i) (suc j)) (everyTo-at m (λ i. everyTo n (λ j. p (suc i) (suc j))) e i high) j high′
 
--- ---- each entry
+-- ---- each element, along the list
+
+abbrev pub All {ℓ} : {A : Type ℓ} → (A → Type 0) → List A → Type 0
+All P [] = Unit {0}
+All P (x ∷ xs) = P x × All P xs
+
+-- ---- each entry, by its place
 
 abbrev pub Each : (ℕ → Type 0) → List ℕ → Type 0
 Each P xs = (j : ℕ) → j < length xs → P (getD xs j 0)

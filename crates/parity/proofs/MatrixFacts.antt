@@ -18,7 +18,8 @@ use Rattle.parity.specs.Questions.{Taken}
 use Rattle.parity.specs.declared.Shape.{Shape}
 use Rattle.parity.proofs.Taken.{errors-split}
 use Rattle.parity.proofs.Redundancy.{redundancyClaim, oneCheck}
-use Rattle.parity.proofs.ListLaws.{length-tabulate, everyTo-at, Each, each-append, each-tabulate, Pairwise, pairs-append, pairs-tabulate}
+use Rattle.parity.proofs.ListLaws.{everyTo-at, Each, each-append, each-tabulate, Pairwise, pairs-append, pairs-tabulate}
+use Rattle.parity.proofs.CheckCells.{checkColumns-sized}
 use Rattle.parity.proofs.RuleColumns.{eligible-below, eligible-weight, eligible-odd, ruleColumnsClaim}
 
 -- a check column has one one
@@ -63,9 +64,8 @@ module _ (s : Shape) (t : Taken s) where
       (errors-split s t)
 
   matrix-sized : length (matrix s) ≡ columns s
-  unfolding matrix checkColumns columns
-  matrix-sized =
-      omega (arith, length-append (rules s) (checkColumns (checks s)), rules-sized, length-tabulate (checks s) (λ ℓ. 2 ^ ℓ))
+  unfolding matrix columns
+  matrix-sized = omega (arith, length-append (rules s) (checkColumns (checks s)), rules-sized, checkColumns-sized (checks s))
 
   -- what holds of the rule columns and of the check columns holds of each column
   matrix-each :
@@ -96,7 +96,7 @@ module _ (s : Shape) (t : Taken s) where
       record {
         sized = matrix-sized;
         nonzero = matrix-each (λ c. 0 < c) (λ c. ⊎-elim (λ o. omega arith) (λ e. weight-nonzero c (eligible-weight _ _ c (e .1)))) (λ ℓ h. pow-pos ℓ);
-        inRows =
+        inChecks =
             matrix-each (λ c. c < 2 ^ checks s)
             (λ c. ⊎-elim (λ o. omega (arith, pow-lt {i = 0} (claim .low))) (λ e. eligible-below _ _ c (e .1))) (λ ℓ h. pow-lt h);
         ones =

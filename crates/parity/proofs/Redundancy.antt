@@ -83,10 +83,6 @@ oneCheck s t e =
     let one : most (s .errors) ≡ 1 = ap most e in
     omega arith
 
-pub limitValues : (limit 1 ≡ 254) × (limit 2 ≡ 247) × (limit 3 ≡ 120)
-unfolding limit largest
-limitValues = (refl, refl, refl)
-
 -- a search that does not run to its end found a number that passes
 first-passes : (p : ℕ → Bool) (n i : ℕ) → firstFrom p n i < i + n → p (firstFrom p n i) ≡ true
 first-passes p zero i h = absurd (omega arith)

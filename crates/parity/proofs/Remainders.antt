@@ -1,7 +1,7 @@
--- Congruence modulo ρ as equal remainders: it goes through sums and products, and a summand can be cancelled. Assumes nothing.
+-- Congruence modulo ρ as equal remainders: it goes through sums, and a summand can be cancelled. Assumes nothing.
 use mathlib.Core.Path.{_≡_, refl, sym, _∙_, ap, ap₂}
-use Prim.Native.Nat.{ℕ, zero, suc, _+_, _-_, _*_, _%_, _<_}
-use native.Mathlib.Nat.{add-mod, mod-mod, mod-lt, mod-self, mod-eq-of-lt, zero-mod, zero-mul, suc-mul, add-zero, add-assoc, add-sub-of-le, le-of-lt, mod-add-mod}
+use Prim.Native.Nat.{ℕ, _+_, _-_, _%_, _<_}
+use native.Mathlib.Nat.{add-mod, mod-mod, mod-lt, mod-self, mod-eq-of-lt, zero-mod, add-zero, add-assoc, add-sub-of-le, le-of-lt, mod-add-mod}
 
 -- a record, so that a use need not write a and b
 pub record Same (ρ a b : ℕ) : Type 0 where
@@ -19,11 +19,6 @@ same-trans p q = record { rem = p .rem ∙ q .rem }
 pub same-add : {ρ a b c d : ℕ} → Same ρ a b → Same ρ c d → Same ρ (a + c) (b + d)
 same-add {ρ} {a} {b} {c} {d} p q =
     record { rem = add-mod a c ρ ∙ ap₂ (λ x y. (x + y) % ρ) (p .rem) (q .rem) ∙ sym (add-mod b d ρ) }
-
-pub same-mul : (k : ℕ) {ρ a b : ℕ} → Same ρ a b → Same ρ (k * a) (k * b)
-same-mul zero {ρ} {a} {b} p = same-eq (zero-mul a ∙ sym (zero-mul b))
-same-mul (suc k) {ρ} {a} {b} p =
-    same-trans (same-eq (suc-mul k a)) (same-trans (same-add (same-mul k p) p) (same-eq (sym (suc-mul k b))))
 
 -- a number is congruent to its remainder
 pub same-mod : (ρ a : ℕ) → Same ρ (a % ρ) a

@@ -19,27 +19,21 @@ use Rattle.parity.specs.Questions.{Taken}
 use Rattle.parity.specs.declared.Shape.{Shape}
 use Rattle.parity.proofs.Taken.{limits}
 use Rattle.parity.proofs.Redundancy.{redundancyClaim}
-use Rattle.parity.proofs.ListLaws.{everyTo-at, Each, each-keep, each-take, pairs-keep, pairs-take, among-keep, among-take}
+use Rattle.parity.proofs.ListLaws.{grid-at, Each, each-keep, each-take, pairs-keep, pairs-take, among-keep, among-take}
 use Rattle.parity.proofs.ColumnOrder.{orderClaim}
 
--- the eligible columns are as many as r check columns carry, for τ = 2 and 3 and each r from 1 to 8
-count-test : List ℕ → ℕ → ℕ → Bool
-count-test cs t r = eqb (length (keep (eligible (suc (suc t)) (suc r)) cs)) (largest (suc (suc t)) (suc r))
+-- the eligible columns are as many as r check columns carry: computed for τ = t + 1 = 2 and 3 and each r from 1 to 8
+countTest : List ℕ → ℕ → ℕ → Bool
+countTest order t r = eqb (length (keep (eligible (suc t) r) order)) (largest (suc t) r)
 
-count-tests : List ℕ → ℕ → Bool
-count-tests cs t = everyTo 8 (count-test cs t)
-
-counts-pass : everyTo 2 (count-tests columnOrder) ≡ true
-unfolding count-tests count-test columnOrder ofWeight weight digit eligible largest
-counts-pass = refl
+tests-pass : everyTo 2 (λ t. everyTo 8 (λ r. countTest columnOrder (suc t) (suc r))) ≡ true
+unfolding countTest columnOrder ofWeight weight digit eligible largest
+tests-pass = refl
 
 counted : (τ r : ℕ) → 2 ≤ τ → τ ≤ 3 → 1 ≤ r → r ≤ 8 → length (keep (eligible τ r) columnOrder) ≡ largest τ r
-unfolding count-tests count-test
-counted zero r low high rlow rhigh = absurd (omega arith)
-counted (suc zero) r low high rlow rhigh = absurd (omega arith)
-counted (suc (suc t)) zero low high rlow rhigh = absurd (omega arith)
-counted (suc (suc t)) (suc r) low high rlow rhigh =
-    eqb-true _ _ (everyTo-at 8 (count-test columnOrder t) (everyTo-at 2 (count-tests columnOrder) counts-pass t (omega arith)) r (omega arith))
+unfolding countTest
+counted zero r low high r1 r8 = absurd (omega arith)
+counted (suc t) r low high r1 r8 = eqb-true _ _ (grid-at 2 8 (countTest columnOrder) tests-pass t r (omega arith) (omega arith) r1 r8)
 
 rule-columns : (τ r k : ℕ) → 2 ≤ τ → ruleColumns τ r k ≡ take k (keep (eligible τ r) columnOrder)
 unfolding ruleColumns

@@ -3,8 +3,9 @@
 use mathlib.Core.Path.{_≡_, refl, sym, _∙_, ap, ap₂}
 use mathlib.Core.Bool.{Bool, true, false, cond}
 use mathlib.Core.List.{List, [], _∷_, _++_}
-use Prim.Native.Nat.{ℕ, suc, _+_, _*_, _/_, _^_, _≤_, _<_, suc-le-suc}
-use native.Mathlib.Nat.{suc-inj, mod-lt, add-zero, zero-mul, one-mul, zero-add, add-assoc, suc-ne-zero, zero-lt-suc, add-suc, suc-add, le-of-lt, le-of-suc-le-suc, mul-le-mul}
+use Prim.Native.Nat.{ℕ, suc, _+_, _*_, _/_, _%_, _^_, _≤_, _<_, suc-le-suc}
+use native.Mathlib.Nat.{suc-inj, mod-lt, add-zero, zero-mul, one-mul, zero-add, add-assoc}
+use native.Mathlib.Nat.{suc-ne-zero, zero-lt-suc, add-suc, suc-add, le-of-lt, le-of-suc-le-suc, mul-le-mul, div-eq-of-lt}
 use native.Mathlib.Omega.{arith}
 use lib.Dec.{eqb}
 use lib.ListN.{length, getD, take}
@@ -28,6 +29,11 @@ bit-below ℓ c = mod-lt (c / 2 ^ ℓ) (zero-lt-suc 1)
 -- a bit that is not 1 is 0
 pub bit-zero : (ℓ c : ℕ) → (bit ℓ c ≡ 1 → ⊥) → bit ℓ c ≡ 0
 bit-zero ℓ c h = omega (arith, bit-below ℓ c)
+
+-- a column below 2^ℓ has no one in check row ℓ
+pub bit-beyond : (c ℓ : ℕ) → c < 2 ^ ℓ → bit ℓ c ≡ 0
+unfolding digit
+bit-beyond c ℓ h = ap (λ x. x % 2) (div-eq-of-lt h)
 
 -- g at the places of the columns with bit ℓ set, where the cells from place j on are vs
 places-sum : (f g : ℕ → ℕ) (ℓ j : ℕ) (cs vs : List ℕ) → length vs ≡ length cs

@@ -7,14 +7,18 @@ use Prim.Native.Nat.{ℕ, _%_, _^_, _≤_, _<_}
 use lib.ListN.{length, getD, take}
 use Rattle.parity.specs.Lists.{differences}
 use Rattle.parity.specs.Shape.{levels, largest, checks, columns}
-use Rattle.parity.specs.Matrix.{weight, columnOrder, eligible, ruleColumns, matrix}
-use Rattle.parity.specs.Codeword.{Codeword, encode}
+use Rattle.parity.specs.Matrix.{weight, columnOrder, eligible, ruleColumns, matrix, lookups}
+use Rattle.parity.specs.Codeword.{Codeword, isCodeword, encode}
 use Rattle.parity.specs.Questions.{Taken}
 use Rattle.parity.specs.declared.Shape.{Shape}
 
 -- the cells in the first k places are below q
 abbrev pub Below : ℕ → ℕ → List ℕ → Type 0
 Below q k row = (j : ℕ) → j < k → getD row j 0 < q
+
+-- The test of a sound row passes exactly the paper's sound rows, for every shape and every row.
+abbrev pub CodewordClaim : Type 0
+CodewordClaim = (s : Shape) (row : List ℕ) → (isCodeword s row ≡ true) ↔ Codeword s row
 
 -- Demand 2: a row of n cells is sound exactly when it is what programming its own rule cells, all below q, would write.
 abbrev pub EncodingClaim : Type 0
@@ -68,7 +72,7 @@ pub record RuleColumnsClaim (s : Shape) : Type 0 where
 pub record MatrixClaim (s : Shape) : Type 0 where
   pub sized : length (matrix s) ≡ columns s
   pub nonzero : (j : ℕ) → j < columns s → 0 < getD (matrix s) j 0
-  pub inRows : (j : ℕ) → j < columns s → getD (matrix s) j 0 < 2 ^ checks s
+  pub inChecks : (j : ℕ) → j < columns s → getD (matrix s) j 0 < 2 ^ checks s
   pub ones : s .errors ≡ 1 → (j : ℕ) → j < columns s → getD (matrix s) j 0 ≡ 1
   pub distinct : 2 ≤ s .errors → (i j : ℕ) → i < j → j < columns s → getD (matrix s) i 0 ≢ getD (matrix s) j 0
   pub odd : s .errors ≡ 3 → (j : ℕ) → j < columns s → weight (getD (matrix s) j 0) % 2 ≡ 1
@@ -79,3 +83,13 @@ pub record RedundancyClaim (s : Shape) : Type 0 where
   pub high : checks s ≤ 8
   pub carries : s .width ≤ largest (s .errors) (checks s)
   pub least : (r : ℕ) → 1 ≤ r → r < checks s → largest (s .errors) r < s .width
+
+-- the largest shape: 256 levels, and the 247 rule columns that 8 check columns carry for τ = 2
+abbrev pub longestShape : Shape
+longestShape = record { radix = 2; digits = 8; errors = 2; width = 247; rows = 1 }
+
+-- The longest cycle: no shape taken has more than 261,120 lookups, 255 for each of 1,024 ones, and the largest has as many.
+pub record LongestClaim : Type 0 where
+  pub most : (s : Shape) → Taken s → lookups s ≤ 261120
+  pub taken : Taken longestShape
+  pub reached : lookups longestShape ≡ 261120

@@ -20,7 +20,7 @@ pub record Codeword (shape : Shape) (row : List ℕ) : Type 0 where
   pub below : (j : ℕ) → j < columns shape → getD row j 0 < levels shape
   pub balanced : (ℓ s : ℕ) → ℓ < checks shape → s < shape .digits → digitSum (shape .radix) s (support shape ℓ) row % shape .radix ≡ 0
 
--- the same as a test
+-- the same as a test; the two are tied by `CodewordClaim` (Claims.antt)
 unfoldable pub isCodeword : Shape → List ℕ → Bool
 isCodeword shape row =
     eqb (length row) (columns shape)

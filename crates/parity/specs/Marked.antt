@@ -1,7 +1,8 @@
 -- Document 01, "Marked rows and shapes": M1 to M8 as rows of one table.
 use mathlib.Core.Path.{_≡_}
 use mathlib.Core.List.{List, [], _∷_, _++_}
-use Prim.Native.Nat.{ℕ}
+use Prim.Native.Nat.{ℕ, _<_}
+use Rattle.parity.specs.Lists.{differences}
 use Rattle.parity.specs.Shape.{checks}
 use Rattle.parity.specs.Matrix.{matrixOnes, lookups}
 use Rattle.parity.specs.Codeword.{Codeword, encode}
@@ -13,6 +14,8 @@ pub data Marked : Type 0 where
   -- these rule cells take these check cells
   takes : Shape → List ℕ → List ℕ → Marked
   sound unsound : Shape → List ℕ → Marked
+  -- these two rows differ in so many cells, which are more than τ
+  differ : Shape → List ℕ → List ℕ → ℕ → Marked
   -- W, the lookups of a cycle, and r
   onesAre lookupsAre checksAre : Shape → ℕ → Marked
   -- the first question that the shape fails, 0 if none
@@ -22,6 +25,7 @@ abbrev pub Holds : Marked → Type 0
 Holds (takes s rule check) = encode s rule ≡ rule ++ check
 Holds (sound s row) = Codeword s row
 Holds (unsound s row) = Codeword s row → ⊥
+Holds (differ s x y cells) = (differences x y ≡ cells) × (s .errors < cells)
 Holds (onesAre s w) = matrixOnes s ≡ w
 Holds (lookupsAre s c) = lookups s ≡ c
 Holds (checksAre s r) = checks s ≡ r
@@ -37,9 +41,12 @@ shapeOf ρ b τ k = record { radix = ρ; digits = b; errors = τ; width = k; row
 
 unfoldable pub markedRows : List Marked
 markedRows =
-    -- M1, M2, M3
+    -- M1
     takes (shapeOf 2 3 1 3) (5 ∷ 2 ∷ 1 ∷ []) (6 ∷ [])
+    -- M2, two cells off M1, more than τ
     ∷ sound (shapeOf 2 3 1 3) (4 ∷ 3 ∷ 1 ∷ 6 ∷ [])
+    ∷ differ (shapeOf 2 3 1 3) (5 ∷ 2 ∷ 1 ∷ 6 ∷ []) (4 ∷ 3 ∷ 1 ∷ 6 ∷ []) 2
+    -- M3
     ∷ unsound (shapeOf 2 3 1 3) (5 ∷ 2 ∷ 0 ∷ 6 ∷ [])
     -- M4
     ∷ takes (shapeOf 3 2 1 2) (5 ∷ 8 ∷ []) (2 ∷ [])

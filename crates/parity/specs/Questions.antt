@@ -1,8 +1,8 @@
 -- Document 01's questions: how they are asked, those on a shape, and those on what a call is given.
 use mathlib.Core.Path.{_≡_}
 use mathlib.Core.Bool.{Bool, cond, _&&_}
-use mathlib.Core.List.{List, [], _∷_}
-use Prim.Native.Nat.{ℕ}
+use mathlib.Core.List.{List, [], _∷_, _++_}
+use Prim.Native.Nat.{ℕ, zero, suc}
 use lib.Dec.{leb, ltb, eqb}
 use Rattle.parity.specs.Lists.{every}
 use Rattle.parity.specs.Shape.{levels, limit}
@@ -17,6 +17,11 @@ pub record Question : Type 0 where
 abbrev pub firstNo : List Question → ℕ
 firstNo [] = 0
 firstNo (q ∷ qs) = cond (q .holds) (firstNo qs) (q .number)
+
+-- one thing where the first no has number 0, which means none, and another where there is one
+abbrev pub ifTaken {ℓ} : {A : Type ℓ} → ℕ → A → A → A
+ifTaken zero taken refused = taken
+ifTaken (suc number) taken refused = refused
 
 -- 1: is ρ from 2 to 255?
 abbrev pub radixQuestion : Shape → Question
@@ -61,6 +66,14 @@ lengthQuestion lent wanted = record { number = 6; holds = eqb lent wanted }
 abbrev pub placeQuestion : ℕ → ℕ → Question
 placeQuestion place count = record { number = 7; holds = ltb place count }
 
--- 8: is every given level or input below q?
+-- 8: is every given level below q?
 abbrev pub levelsQuestion : Shape → List ℕ → Question
 levelsQuestion s given = record { number = 8; holds = every (λ v. ltb v (levels s)) given }
+
+-- 8: is every input below q?
+abbrev pub inputsQuestion : Shape → List ℕ → Question
+inputsQuestion s inputs = record { number = 8; holds = every (λ v. ltb v (levels s)) inputs }
+
+-- The questions of a call, in their order: those on the shape; on further numbers; 6 on the lengths of what is lent; and the call's own.
+abbrev pub callQuestions : Shape → List Question → List Question → List Question → List Question
+callQuestions s numbers lengths own = shapeQuestions s ++ numbers ++ lengths ++ own

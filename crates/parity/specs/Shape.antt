@@ -1,4 +1,4 @@
--- Document 01, "Shape of an array".
+-- Document 01, "Shape of an array": digits and levels, the limits of k, and the check columns and columns of a shape.
 use mathlib.Core.Bool.{cond}
 use Prim.Native.Nat.{ℕ, _+_, _-_, _/_, _%_, _^_}
 use lib.Dec.{eqb, leb}

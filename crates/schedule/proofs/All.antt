@@ -6,11 +6,8 @@ use native.Mathlib.Omega.{arith}
 use lib.ListN.{length, getD}
 use Rattle.parity.specs.Lists.{joined}
 use Rattle.parity.proofs.ListLaws.{Each}
+pub use Rattle.parity.proofs.ListLaws.{All}
 use Rattle.schedule.specs.Schedule.{overEach, atLast}
-
-abbrev pub All {ℓ} : {A : Type ℓ} → (A → Type 0) → List A → Type 0
-All P [] = Unit {0}
-All P (x ∷ xs) = P x × All P xs
 
 module _ {ℓ} {A : Type ℓ} (P Q : A → Type 0) where
   pub all-turn : ((x : A) → P x → Q x) → (xs : List A) → All P xs → All Q xs

@@ -1,4 +1,4 @@
--- Each entry of the schedule asks a column of the array with an input from 1 to q − 1, so a cell of q or more answers as q − 1 does.
+-- Each entry of a schedule asks a column of the array with an input from 1 to q − 1, so a cell of q or more answers as q − 1 does.
 -- Assumes nothing.
 use mathlib.Core.Path.{_≡_, refl, ap, _∙_}
 use mathlib.Core.Bool.{Bool, true, false}
@@ -14,38 +14,39 @@ use Rattle.parity.specs.Matrix.{support}
 use Rattle.parity.specs.Questions.{Taken}
 use Rattle.parity.specs.declared.Shape.{Shape}
 use Rattle.parity.proofs.Taken.{limits}
-use Rattle.schedule.specs.Schedule.{Entry, factors, within, ending, testVector, ofDigit, ofRow, schedule}
+use Rattle.schedule.specs.Schedule.{Plan, digitsOf, Entry, factors, within, ending, testVector, ofDigit, ofCheck, schedule}
 use Rattle.schedule.specs.Line.{freshLine}
 use Rattle.schedule.specs.Claims.{CapClaim}
 use Rattle.schedule.proofs.All.{All, all-at, all-turn, all-joined, all-atLast, all-pairs}
-use Rattle.schedule.proofs.Lookup.{match-unit}
+use Rattle.schedule.proofs.Lookup.{match-entry}
 use Rattle.schedule.proofs.Support.{support-below}
 use Rattle.schedule.proofs.Factors.{factors-inputs}
 use Rattle.schedule.proofs.Length.{entries}
 use Rattle.schedule.proofs.Runs.{lineRun-alike}
 
 pub record Proper (s : Shape) (e : Entry) : Type 0 where
-  pub row : e .row < checks s
+  pub check : e .check < checks s
   pub digit : e .digit < s .digits
   pub column : e .column < columns s
   pub factor : 1 ≤ e .factor
   pub input : e .factor * s .radix ^ e .digit < levels s
 
-pub proper-all : (s : Shape) → Taken s → All (Proper s) (schedule s)
-unfolding schedule ofRow ofDigit
-proper-all s t =
-    all-joined (Proper s) (checks s) (ofRow s) λ ℓ h.
-    all-joined (Proper s) (s .digits) (λ i. ofDigit s ℓ (s .digits - suc i)) λ i l.
+pub proper-all : (plan : Plan) (s : Shape) → Taken s → All (Proper s) (schedule plan s)
+unfolding schedule ofCheck ofDigit
+proper-all plan s t =
+    all-joined (Proper s) (checks s) (ofCheck plan s) λ ℓ h.
+    all-joined (Proper s) (digitsOf plan s) (λ i. ofDigit plan s ℓ (s .digits - suc i)) λ i l.
     let d : ℕ = s .digits - suc i in
-    let lt : d < s .digits = omega arith in
-    all-atLast (Proper s) ending
-    (λ e p. record { row = p .row; digit = p .digit; column = p .column; factor = p .factor; input = p .input }) (entries s ℓ d)
+    let lt : d < s .digits = omega (arith, limits s t .digitsLow) in
+    all-atLast (Proper s) (ending plan)
+    (λ e p. record { check = p .check; digit = p .digit; column = p .column; factor = p .factor; input = p .input }) (entries s ℓ d)
     (all-pairs (Proper s) (λ j. j < columns s) (λ a. (1 ≤ a) × (a * s .radix ^ d < levels s)) (within ℓ d)
-    (λ j a k m. record { row = h; digit = lt; column = k; factor = m .0; input = m .1 }) (support s ℓ) (factors s d) (support-below s t ℓ)
+    (λ j a k m. record { check = h; digit = lt; column = k; factor = m .0; input = m .1 }) (support s ℓ) (factors s d) (support-below s t ℓ)
     (factors-inputs s (limits s t .radixLow) d lt))
 
-pub schedule-proper : (s : Shape) → Taken s → (c : ℕ) → c < length (schedule s) → (d : Entry) → Proper s (getD (schedule s) c d)
-schedule-proper s t = all-at (Proper s) (schedule s) (proper-all s t)
+pub schedule-proper :
+    (plan : Plan) (s : Shape) → Taken s → (c : ℕ) → c < length (schedule plan s) → (d : Entry) → Proper s (getD (schedule plan s) c d)
+schedule-proper plan s t = all-at (Proper s) (schedule plan s) (proper-all plan s t)
 
 -- an input below q doesn't tell a cell from its cap
 leb-capped : (x q v : ℕ) → x < q → leb x (min v (q - 1)) ≡ leb x v
@@ -64,17 +65,15 @@ cell-capped c row j =
 pub match-capped :
     (s : Shape) (row : List ℕ) → length row ≡ columns s → (e : Entry) → Proper s e
     → matchByte (testVector s e) row ≡ matchByte (testVector s e) (map (λ v. min v (levels s - 1)) row)
-unfolding testVector
 match-capped s row sized e p =
-    let x : ℕ = e .factor * s .radix ^ e .digit in
     rw (
-      match-unit (columns s) (e .column) x row (p .column) sized,
-      match-unit (columns s) (e .column) x (map (λ v. min v (levels s - 1)) row) (p .column) (length-map row (λ v. min v (levels s - 1)) ∙ sized),
+      match-entry s e row (p .column) sized,
+      match-entry s e (map (λ v. min v (levels s - 1)) row) (p .column) (length-map row (λ v. min v (levels s - 1)) ∙ sized),
       cell-capped (levels s - 1) row (e .column),
-      leb-capped x (levels s) (getD row (e .column) 0) (p .input),
+      leb-capped (e .factor * s .radix ^ e .digit) (levels s) (getD row (e .column) 0) (p .input),
     )
 
 pub capClaim : CapClaim
-capClaim s t row sized =
-    lineRun-alike s row (map (λ v. min v (levels s - 1)) row) (schedule s)
-    (all-turn (Proper s) _ (match-capped s row sized) (schedule s) (proper-all s t)) freshLine
+capClaim plan s t row sized =
+    lineRun-alike s row (map (λ v. min v (levels s - 1)) row) (schedule plan s)
+    (all-turn (Proper s) _ (match-capped s row sized) (schedule plan s) (proper-all plan s t)) freshLine

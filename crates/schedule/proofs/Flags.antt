@@ -1,9 +1,9 @@
 -- A whole cycle flags a row of n cells below q exactly where it is not sound: digit by digit from the highest, the counter of a check row is
 -- the sum of v / ρ^s over its cells mod ρ, which is that of the digits s. Assumes nothing.
 use mathlib.Core.Path.{_≡_, refl, sym, ap, ap₂, fun-ext, _∙_}
-use mathlib.Core.Bool.{Bool, true, false, cond, _&&_}
+use mathlib.Core.Bool.{Bool, true, false, cond, _&&_, not-eq-not}
 use mathlib.Core.List.{List, map}
-use Prim.Native.Nat.{ℕ, suc, _+_, _-_, _*_, _/_, _%_, _^_, _≤_, _<_}
+use Prim.Native.Nat.{ℕ, suc, _+_, _-_, _/_, _%_, _^_, _≤_, _<_}
 use native.Mathlib.Nat.{zero-mod, div-eq-of-lt, one-le-mul}
 use native.Mathlib.Omega.{arith}
 use lib.Arith.{comp-comp}
@@ -13,18 +13,19 @@ use borrow.Author.Tests.{eq-eqb, lt-ltb}
 use Rattle.parity.specs.Lists.{joined, sumOver, everyTo}
 use Rattle.parity.specs.Shape.{digit, levels, checks, columns}
 use Rattle.parity.specs.Matrix.{support}
-use Rattle.parity.specs.Codeword.{digitSum, isCodeword}
+use Rattle.parity.specs.Codeword.{isCodeword}
 use Rattle.parity.specs.Claims.{Below}
 use Rattle.parity.specs.Questions.{Taken}
 use Rattle.parity.specs.declared.Shape.{Shape}
 use Rattle.parity.proofs.Taken.{limits}
 use Rattle.parity.proofs.ListLaws.{every-passes, everyTo-at, everyTo-passes}
-use Rattle.schedule.specs.Schedule.{factors, within, testVector, ofDigit, ofRow, schedule}
-use Rattle.schedule.specs.Line.{Line, lineRun}
+use Rattle.parity.proofs.CodewordTest.{isBalanced, codeword-test, codeword-passes}
+use Rattle.schedule.specs.Schedule.{full, factors, within, ofDigit, ofCheck, schedule}
+use Rattle.schedule.specs.Line.{Line, lineRun, freshLine}
 use Rattle.schedule.specs.Claims.{FlagClaim}
 use Rattle.schedule.proofs.All.{All, all-turn, all-pairs}
 use Rattle.schedule.proofs.Sums.{cond-same, sum-overEach, sum-map, sum-each, sum-same}
-use Rattle.schedule.proofs.Lookup.{match-unit}
+use Rattle.schedule.proofs.Lookup.{match-entry}
 use Rattle.schedule.proofs.Counting.{answers-count}
 use Rattle.schedule.proofs.Support.{support-below, support-some}
 use Rattle.schedule.proofs.Factors.{factors-some, factors-inputs}
@@ -36,18 +37,14 @@ use Rattle.schedule.proofs.Digit.{line, ended, Plain, matched, run-digi
 abbrev pub shares : Shape → List ℕ → ℕ → ℕ → ℕ
 shares shape row ℓ s = sumOver (support shape ℓ) (λ j. getD row j 0 / shape .radix ^ s)
 
--- the digits s of check row ℓ sum to 0 mod ρ
-abbrev pub balanced : Shape → List ℕ → ℕ → ℕ → Bool
-balanced shape row ℓ s = eqb (digitSum (shape .radix) s (support shape ℓ) row % shape .radix) 0
-
 -- the counter at the end of digit s of check row ℓ
 abbrev pub counterAt : Shape → List ℕ → ℕ → ℕ → ℕ
 counterAt shape row ℓ s = cond (eqb s 0) 0 (shares shape row ℓ s % shape .radix)
 
 -- the line after the i highest digits of check row ℓ, where the flag was f before
-abbrev rowLine : Shape → List ℕ → ℕ → ℕ → ℕ → Line
-rowLine shape row ℓ f i =
-    line (counterAt shape row ℓ (shape .digits - i)) (cond (everyTo i (λ i. balanced shape row ℓ (shape .digits - suc i))) f 1)
+abbrev checkLine : Shape → List ℕ → ℕ → ℕ → ℕ → Line
+checkLine shape row ℓ f i =
+    line (counterAt shape row ℓ (shape .digits - i)) (cond (everyTo i (λ i. isBalanced shape row ℓ (shape .digits - suc i))) f 1)
 
 -- flags one after the other
 both-flags : (a b : Bool) (f : ℕ) → cond b (cond a f 1) 1 ≡ cond (a && b) f 1
@@ -67,7 +64,7 @@ everyTo-down n p =
     alike false false h k = refl
 
 -- v / ρ^s and its remainder, the digit, are congruent
-share-balanced : (shape : Shape) (row : List ℕ) (ℓ s : ℕ) → eqb (shares shape row ℓ s % shape .radix) 0 ≡ balanced shape row ℓ s
+share-balanced : (shape : Shape) (row : List ℕ) (ℓ s : ℕ) → eqb (shares shape row ℓ s % shape .radix) 0 ≡ isBalanced shape row ℓ s
 unfolding digit
 share-balanced shape row ℓ s = ap (λ x. eqb x 0) (sym (sum-same (shape .radix) (λ j. getD row j 0 / shape .radix ^ s) (support shape ℓ) .rem))
 
@@ -77,11 +74,10 @@ module _
   cell-matched :
       (ℓ s j : ℕ) → s < shape .digits → j < columns shape
       → sumOver (map (within ℓ s j) (factors shape s)) (matched shape row) + getD row j 0 / shape .radix ^ suc s ≡ getD row j 0 / shape .radix ^ s
-  unfolding testVector
   cell-matched ℓ s j lt l =
       ap (λ x. x + getD row j 0 / shape .radix ^ suc s)
       (sum-map (matched shape row) (within ℓ s j) (factors shape s)
-      ∙ ap (sumOver (factors shape s)) (fun-ext (λ a. match-unit (columns shape) j (a * shape .radix ^ s) row l sized)))
+      ∙ ap (sumOver (factors shape s)) (fun-ext (λ a. match-entry shape (within ℓ s j a) row l sized)))
       ∙ answers-count shape (omega (arith, limits shape t .radixLow)) s lt (getD row j 0) (below j l)
 
   -- .. and of one ℓ and s
@@ -97,19 +93,19 @@ module _
 
   pub digit-run :
       (ℓ s f : ℕ) → ℓ < checks shape → s < shape .digits
-      → lineRun shape row (ofDigit shape ℓ s) (line (counterAt shape row ℓ (suc s)) f)
-      ≡ line (counterAt shape row ℓ s) (cond (balanced shape row ℓ s) f 1)
+      → lineRun shape row (ofDigit full shape ℓ s) (line (counterAt shape row ℓ (suc s)) f)
+      ≡ line (counterAt shape row ℓ s) (cond (isBalanced shape row ℓ s) f 1)
   unfolding ofDigit
   digit-run ℓ s f h lt =
       let two : 2 ≤ shape .radix = limits shape t .radixLow in
       let above : ℕ = shares shape row ℓ (suc s) in
       let plain : All (Plain s) (entries shape ℓ s) =
-      all-pairs (Plain s) (λ j. j < columns shape) _ (within ℓ s) (λ j a l k. record { digit = refl; endsDigit = refl; endsRow = refl })
+      all-pairs (Plain s) (λ j. j < columns shape) _ (within ℓ s) (λ j a l k. record { digit = refl; flags = refl; resets = refl })
       (support shape ℓ) (factors shape s) (support-below shape t ℓ) (factors-inputs shape two s lt) in
-      ap (λ c. lineRun shape row (ofDigit shape ℓ s) (line (cond c 0 (above % shape .radix)) f)) (eqb·suc-zero s)
-      ∙ run-digit shape row s above f (entries shape ℓ s) plain
+      ap (λ c. lineRun shape row (ofDigit full shape ℓ s) (line (cond c 0 (above % shape .radix)) f)) (eqb·suc-zero s)
+      ∙ run-digit full shape row s above f (entries shape ℓ s) plain
       (rw entries-length (one-le-mul (support-some shape t ℓ h) (factors-some shape two s lt)))
-      ∙ ap (λ x. ended s (x % shape .radix) f) (entries-matched ℓ s lt)
+      ∙ ap (λ x. ended full s (x % shape .radix) f) (entries-matched ℓ s lt)
       ∙ ap (λ p. line (counterAt shape row ℓ s) (cond p f 1)) (share-balanced shape row ℓ s)
 
   -- no level has more than b digits; x + x ≡ x says that x is 0
@@ -127,40 +123,52 @@ module _
       ap (counterAt shape row ℓ) first ∙ ap (λ x. cond (eqb b 0) 0 x) (ap (λ x. x % shape .radix) (shares-none ℓ) ∙ zero-mod (shape .radix))
       ∙ cond-same (eqb b 0) 0
 
-  row-step :
+  check-step :
       (ℓ f i : ℕ) → ℓ < checks shape → i < shape .digits
-      → lineRun shape row (ofDigit shape ℓ (shape .digits - suc i)) (rowLine shape row ℓ f i) ≡ rowLine shape row ℓ f (suc i)
-  row-step ℓ f i h l =
+      → lineRun shape row (ofDigit full shape ℓ (shape .digits - suc i)) (checkLine shape row ℓ f i) ≡ checkLine shape row ℓ f (suc i)
+  check-step ℓ f i h l =
       let b : ℕ = shape .digits in
-      let sound : ℕ → Bool = λ i. balanced shape row ℓ (b - suc i) in
+      let sound : ℕ → Bool = λ i. isBalanced shape row ℓ (b - suc i) in
       let flag : ℕ = cond (everyTo i sound) f 1 in
       let next : b - i ≡ suc (b - suc i) = omega arith in
-      ap (λ s. lineRun shape row (ofDigit shape ℓ (b - suc i)) (line (counterAt shape row ℓ s) flag)) next
+      ap (λ s. lineRun shape row (ofDigit full shape ℓ (b - suc i)) (line (counterAt shape row ℓ s) flag)) next
       ∙ digit-run ℓ (b - suc i) flag h (omega arith) ∙ ap (line (counterAt shape row ℓ (b - suc i))) (both-flags (everyTo i sound) (sound i) f)
 
-  pub row-run :
+  pub check-run :
       (ℓ f : ℕ) → ℓ < checks shape
-      → lineRun shape row (ofRow shape ℓ) (line 0 f) ≡ line 0 (cond (everyTo (shape .digits) (balanced shape row ℓ)) f 1)
-  unfolding ofRow
-  row-run ℓ f h =
+      → lineRun shape row (ofCheck full shape ℓ) (line 0 f) ≡ line 0 (cond (everyTo (shape .digits) (isBalanced shape row ℓ)) f 1)
+  unfolding ofCheck
+  check-run ℓ f h =
       let b : ℕ = shape .digits in
       let last : b - b ≡ 0 = omega arith in
-      ap (λ c. lineRun shape row (ofRow shape ℓ) (line c f)) (sym (counter-start ℓ))
-      ∙ lineRun-joined shape row b (λ i. ofDigit shape ℓ (b - suc i)) (rowLine shape row ℓ f) (λ i. row-step ℓ f i h)
-      ∙ ap₂ line (ap (counterAt shape row ℓ) last) (ap (λ p. cond p f 1) (everyTo-down b (balanced shape row ℓ)))
+      ap (λ c. lineRun shape row (ofCheck full shape ℓ) (line c f)) (sym (counter-start ℓ))
+      ∙ lineRun-joined shape row b (λ i. ofDigit full shape ℓ (b - suc i)) (checkLine shape row ℓ f) (λ i. check-step ℓ f i h)
+      ∙ ap₂ line (ap (counterAt shape row ℓ) last) (ap (λ p. cond p f 1) (everyTo-down b (isBalanced shape row ℓ)))
 
-  pub rows-run :
+  pub checks-run :
       (n f : ℕ) → n ≤ checks shape
-      → lineRun shape row (joined n (ofRow shape)) (line 0 f) ≡ line 0 (cond (everyTo n (λ ℓ. everyTo (shape .digits) (balanced shape row ℓ))) f 1)
-  rows-run n f h =
-      let sound : ℕ → Bool = λ ℓ. everyTo (shape .digits) (balanced shape row ℓ) in
-      lineRun-joined shape row n (ofRow shape) (λ ℓ. line 0 (cond (everyTo ℓ sound) f 1))
-      (λ ℓ l. row-run ℓ (cond (everyTo ℓ sound) f 1) (omega arith) ∙ ap (line 0) (both-flags (everyTo ℓ sound) (sound ℓ) f))
+      → lineRun shape row (joined n (ofCheck full shape)) (line 0 f) ≡ line 0 (cond (everyTo n (λ ℓ. everyTo (shape .digits) (isBalanced shape row ℓ))) f 1)
+  checks-run n f h =
+      let sound : ℕ → Bool = λ ℓ. everyTo (shape .digits) (isBalanced shape row ℓ) in
+      lineRun-joined shape row n (ofCheck full shape) (λ ℓ. line 0 (cond (everyTo ℓ sound) f 1))
+      (λ ℓ l. check-run ℓ (cond (everyTo ℓ sound) f 1) (omega arith) ∙ ap (line 0) (both-flags (everyTo ℓ sound) (sound ℓ) f))
 
-pub flagClaim : FlagClaim
+-- the line after a whole cycle, as the test of a sound row tells it
+pub flag-test :
+    (s : Shape) → Taken s → (row : List ℕ) → length row ≡ columns s → Below (levels s) (columns s) row
+    → lineRun s row (schedule full s) freshLine ≡ record { counter = 0; flag = cond (isCodeword s row) 0 1 }
 unfolding schedule isCodeword
-flagClaim s t row sized below =
+flag-test s t row sized below =
     simp (
       eq-eqb (length row) (columns s) sized,
       every-passes (λ v. ltb v (levels s)) row 0 (λ j h. lt-ltb _ _ (below j (omega arith))),
-    ) (rows-run s t row sized below (checks s) 0 (omega arith))
+    ) (checks-run s t row sized below (checks s) 0 (omega arith))
+
+pub flagClaim : FlagClaim
+flagClaim s t row sized below =
+    let e = flag-test s t row sized below in
+    record {
+      counter = ap (λ l. l .counter) e;
+      sound = λ c. ap (λ l. l .flag) e ∙ ap (λ b. cond b 0 1) (codeword-passes s row c);
+      unsound = λ n. ap (λ l. l .flag) e ∙ ap (λ b. cond b 0 1) (not-eq-not {b = false} .0 (λ p. n (codeword-test s row p)));
+    }

@@ -1,4 +1,4 @@
--- The index of a place: what stands before it in the schedule is the rows before its own, in its row the digits above its own, and there the
+-- The index of a place: what stands before it in the schedule is the check rows before its own, there the digits above its own, and of those the
 -- columns and factors before it. Each place has the entry that says whether it is the last of its digit, and there is no other entry.
 -- Assumes nothing.
 use mathlib.Core.Path.{_≡_, refl, ap, _∙_}
@@ -17,12 +17,12 @@ use Rattle.parity.specs.Matrix.{support}
 use Rattle.parity.specs.Questions.{Taken}
 use Rattle.parity.specs.declared.Shape.{Shape}
 use Rattle.parity.proofs.Taken.{limits}
-use Rattle.schedule.specs.Schedule.{Entry, factors, within, ending, ofDigit, ofRow, schedule}
-use Rattle.schedule.specs.Index.{Place, rowSize, rank, span, placeIndex, endsAt, entryOf}
+use Rattle.schedule.specs.Schedule.{full, Entry, factors, within, ending, ofDigit, ofCheck, schedule}
+use Rattle.schedule.specs.Index.{IsPlace, supportSize, rank, span, placeIndex, endsAt, entryOf}
 use Rattle.schedule.specs.Claims.{IndexClaim}
 use Rattle.schedule.proofs.Sums.{length-joined, sum-steps, sum-times}
 use Rattle.schedule.proofs.Factors.{factors-some}
-use Rattle.schedule.proofs.Length.{entries, entries-length, digit-length, length-step, row-length}
+use Rattle.schedule.proofs.Length.{entries, entries-length, digit-length, length-step, check-length}
 use Rattle.schedule.proofs.Stands.{Stands, stands-joined, joined-part, stands-overEach, stands-map, stands-atLast}
 use Rattle.schedule.proofs.Ranks.{stands-support, support-part, factorRank, Factor, stands-factor, factor-part, factor-last, span-some, span-step}
 
@@ -39,38 +39,38 @@ last-last m w r c h k = go (eqb (suc r) m) (eqb (suc c) w) refl refl
 
 -- an entry that ends its digit or not
 marked : (ℓ d j a : ℕ) (b : Bool)
-    → cond b (ending (within ℓ d j a)) (within ℓ d j a)
-    ≡ record { row = ℓ; digit = d; column = j; factor = a; endsDigit = b; endsRow = b && eqb d 0 }
+    → cond b (ending full (within ℓ d j a)) (within ℓ d j a)
+    ≡ record { check = ℓ; digit = d; column = j; factor = a; flags = b; resets = b && eqb d 0 }
 marked ℓ d j a true = refl
 marked ℓ d j a false = refl
 
 -- the entries of one ℓ, digit by digit from the highest
-abbrev digitsOf : Shape → ℕ → ℕ → List Entry
-digitsOf s ℓ i = ofDigit s ℓ (s .digits - suc i)
+abbrev digitLists : Shape → ℕ → ℕ → List Entry
+digitLists s ℓ i = ofDigit full s ℓ (s .digits - suc i)
 
 module _ (s : Shape) (t : Taken s) where
   -- ---- how many entries stand before
 
-  rows-before : (ℓ : ℕ) → length (joined ℓ (ofRow s)) ≡ (levels s - 1) * sumTo ℓ (rowSize s)
-  unfolding rowSize
-  rows-before ℓ = length-joined ℓ (ofRow s) ∙ sum-times ℓ (levels s - 1) (λ i. length (ofRow s i)) (rowSize s) (λ i h. row-length s t i)
+  checks-before : (ℓ : ℕ) → length (joined ℓ (ofCheck full s)) ≡ (levels s - 1) * sumTo ℓ (supportSize s)
+  unfolding supportSize
+  checks-before ℓ = length-joined ℓ (ofCheck full s) ∙ sum-times ℓ (levels s - 1) (λ i. length (ofCheck full s i)) (supportSize s) (λ i h. check-length s t i)
 
-  digits-before : (ℓ d : ℕ) → d < s .digits → length (joined (s .digits - suc d) (digitsOf s ℓ)) ≡ rowSize s ℓ * (span s (suc d) - 1)
-  unfolding rowSize span levels
+  digits-before : (ℓ d : ℕ) → d < s .digits → length (joined (s .digits - suc d) (digitLists s ℓ)) ≡ supportSize s ℓ * (span s (suc d) - 1)
+  unfolding supportSize span levels
   digits-before ℓ d h =
       let b : ℕ = s .digits in
       let J : ℕ = length (support s ℓ) in
       let two : 2 ≤ s .radix = limits s t .radixLow in
-      let step : (i : ℕ) → i < b - suc d → length (digitsOf s ℓ i) + J * span s (b - i) ≡ J * span s (b - suc i) =
-      λ i l. let next : suc (b - suc i) ≡ b - i = omega arith in rw next at (length-step s t ℓ (b - suc i) (omega arith)) in
+      let step : (i : ℕ) → i < b - suc d → length (digitLists s ℓ i) + J * span s (b - i) ≡ J * span s (b - suc i) =
+      λ i l. let next : suc (b - suc i) ≡ b - i = omega arith in rw next at (length-step full s t ℓ (b - suc i) (omega arith)) in
       let first : b - 0 ≡ b = omega arith in
       let last : b - (b - suc d) ≡ suc d = omega arith in
       let low : span s (b - 0) ≡ 1 = ap (span s) first ∙ div-self (one-le-pow b (s .radix) (omega arith)) in
       let high : span s (b - (b - suc d)) ≡ suc (span s (suc d) - 1) = ap (span s) last ∙ omega (arith, span-some s two d h) in
       omega (
         arith,
-        length-joined (b - suc d) (digitsOf s ℓ),
-        sum-steps (b - suc d) (λ i. length (digitsOf s ℓ i)) (λ i. J * span s (b - i)) step,
+        length-joined (b - suc d) (digitLists s ℓ),
+        sum-steps (b - suc d) (λ i. length (digitLists s ℓ i)) (λ i. J * span s (b - i)) step,
         ap (λ x. J * x) low,
         ap (λ x. J * x) high,
       )
@@ -78,18 +78,18 @@ module _ (s : Shape) (t : Taken s) where
   index-parts :
       (ℓ d j a : ℕ) → d < s .digits
       → placeIndex s ℓ d j a
-      ≡ length (joined ℓ (ofRow s))
-      + (length (joined (s .digits - suc d) (digitsOf s ℓ)) + (rank s ℓ j * length (factors s d) + factorRank (s .radix) a))
+      ≡ length (joined ℓ (ofCheck full s))
+      + (length (joined (s .digits - suc d) (digitLists s ℓ)) + (rank s ℓ j * length (factors s d) + factorRank (s .radix) a))
   unfolding placeIndex
   index-parts ℓ d j a h =
       let own : span s d - span s (suc d) ≡ length (factors s d) = omega (arith, span-step s (limits s t .radixLow) d h) in
-      omega (arith, rows-before ℓ, digits-before ℓ d h, ap (λ x. rank s ℓ j * x) own)
+      omega (arith, checks-before ℓ, digits-before ℓ d h, ap (λ x. rank s ℓ j * x) own)
 
   -- ---- each place
 
   digit-stands :
-      (ℓ d j a : ℕ) → Place s ℓ d j a → Stands (ofDigit s ℓ d) (rank s ℓ j * length (factors s d) + factorRank (s .radix) a) (entryOf s ℓ d j a)
-  unfolding ofDigit endsAt rowSize
+      (ℓ d j a : ℕ) → IsPlace s ℓ d j a → Stands (ofDigit full s ℓ d) (rank s ℓ j * length (factors s d) + factorRank (s .radix) a) (entryOf s ℓ d j a)
+  unfolding ofDigit endsAt supportSize
   digit-stands ℓ d j a p =
       let two : 2 ≤ s .radix = limits s t .radixLow in
       let r : ℕ = rank s ℓ j in
@@ -105,35 +105,35 @@ module _ (s : Shape) (t : Taken s) where
       ap (eqb (suc (r * w + k))) (entries-length s ℓ d)
       ∙ last-last (length (support s ℓ)) w r k (column .0) (own .0)
       ∙ ap (λ b. eqb (suc r) (length (support s ℓ)) && b) (factor-last s two d (p .digit) a factor) in
-      let all = stands-atLast ending (entries s ℓ d) (r * w + k) (within ℓ d j a) plain in
-      (all .0, λ e. all .1 e ∙ ap (λ b. cond b (ending (within ℓ d j a)) (within ℓ d j a)) ends ∙ marked ℓ d j a (endsAt s ℓ d j a))
+      let all = stands-atLast (ending full) (entries s ℓ d) (r * w + k) (within ℓ d j a) plain in
+      (all .0, λ e. all .1 e ∙ ap (λ b. cond b (ending full (within ℓ d j a)) (within ℓ d j a)) ends ∙ marked ℓ d j a (endsAt s ℓ d j a))
 
-  place-stands : (ℓ d j a : ℕ) → Place s ℓ d j a → Stands (schedule s) (placeIndex s ℓ d j a) (entryOf s ℓ d j a)
-  unfolding schedule ofRow
+  place-stands : (ℓ d j a : ℕ) → IsPlace s ℓ d j a → Stands (schedule full s) (placeIndex s ℓ d j a) (entryOf s ℓ d j a)
+  unfolding schedule ofCheck
   place-stands ℓ d j a p =
       let own : s .digits - suc (s .digits - suc d) ≡ d = comp-comp (p .digit) in
       rw (index-parts ℓ d j a (p .digit))
-      (stands-joined (checks s) (ofRow s) ℓ _ (entryOf s ℓ d j a) (p .row)
-      (stands-joined (s .digits) (digitsOf s ℓ) (s .digits - suc d) _ (entryOf s ℓ d j a) (omega arith) (rw own (digit-stands ℓ d j a p))))
+      (stands-joined (checks s) (ofCheck full s) ℓ _ (entryOf s ℓ d j a) (p .check)
+      (stands-joined (s .digits) (digitLists s ℓ) (s .digits - suc d) _ (entryOf s ℓ d j a) (omega arith) (rw own (digit-stands ℓ d j a p))))
 
   -- ---- each index
 
-  index-found : (c : ℕ) → c < length (schedule s) → (ℓ : ℕ) × (d : ℕ) × (j : ℕ) × (a : ℕ) × Place s ℓ d j a × (placeIndex s ℓ d j a ≡ c)
-  unfolding schedule ofRow
+  index-found : (c : ℕ) → c < length (schedule full s) → (ℓ : ℕ) × (d : ℕ) × (j : ℕ) × (a : ℕ) × IsPlace s ℓ d j a × (placeIndex s ℓ d j a ≡ c)
+  unfolding schedule ofCheck
   index-found c h =
       let two : 2 ≤ s .radix = limits s t .radixLow in
-      let (ℓ, c₁, row, l₁, e₁) = joined-part (checks s) (ofRow s) c h in
-      let (i, c₂, digit, l₂, e₂) = joined-part (s .digits) (digitsOf s ℓ) c₁ l₁ in
+      let (ℓ, c₁, check, l₁, e₁) = joined-part (checks s) (ofCheck full s) c h in
+      let (i, c₂, digit, l₂, e₂) = joined-part (s .digits) (digitLists s ℓ) c₁ l₁ in
       let d : ℕ = s .digits - suc i in
       let lt : d < s .digits = omega arith in
       let w : ℕ = length (factors s d) in
       let some : 0 < w = factors-some s two d lt in
-      let (j, column, held, e₃) = support-part s t ℓ (c₂ / w) (div-lt-iff-lt-mul some .1 (rw (digit-length s ℓ d) at l₂)) in
+      let (j, column, held, e₃) = support-part s t ℓ (c₂ / w) (div-lt-iff-lt-mul some .1 (rw (digit-length full s ℓ d) at l₂)) in
       let (a, factor, e₄) = factor-part s two d lt (c₂ % w) (mod-lt c₂ some) in
-      let place : Place s ℓ d j a =
-      record { row = row; digit = lt; column = column; held = held; low = factor .low; high = factor .high; undivided = factor .undivided } in
-      let digits : length (joined (s .digits - suc d) (digitsOf s ℓ)) ≡ length (joined i (digitsOf s ℓ)) =
-      ap (λ n. length (joined n (digitsOf s ℓ))) (comp-comp digit) in
+      let place : IsPlace s ℓ d j a =
+      record { check = check; digit = lt; column = column; held = held; low = factor .low; high = factor .high; undivided = factor .undivided } in
+      let digits : length (joined (s .digits - suc d) (digitLists s ℓ)) ≡ length (joined i (digitLists s ℓ)) =
+      ap (λ n. length (joined n (digitLists s ℓ))) (comp-comp digit) in
       (ℓ, d, j, a, place, omega (arith, index-parts ℓ d j a lt, ap (λ x. x * w) e₃, div-add-mod' c₂ w))
 
 pub indexClaim : (s : Shape) → Taken s → IndexClaim s

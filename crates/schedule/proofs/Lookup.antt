@@ -1,17 +1,20 @@
--- A lookup of the unit vector looks at one cell: every other input is 0, and each cell answers 1 to that. Assumes nothing.
+-- A lookup of the unit vector looks at one cell: every other input is 0, and each cell answers 1 to that. So does the lookup of an entry.
+-- Assumes nothing.
 use mathlib.Core.Path.{_≡_, refl, sym, ap, ap₂, _∙_}
 use mathlib.Core.Logic.{_≢_}
 use mathlib.Core.Bool.{true, cond, _&&_, and-true}
 use mathlib.Core.List.{List, [], _∷_}
-use Prim.Native.Nat.{ℕ, zero, suc, _<_, suc-le-suc}
+use Prim.Native.Nat.{ℕ, zero, suc, _*_, _^_, _<_, suc-le-suc}
 use native.Mathlib.Nat.{suc-inj, suc-ne-zero, zero-lt-suc, le-of-suc-le-suc, not-suc-le-zero}
 use native.Mathlib.Omega.{arith}
 use lib.Dec.{eqb, leb, leb·zero}
 use lib.ListN.{length, getD}
 use borrow.Author.Tests.{eq-eqb, ne-eqb}
+use Rattle.parity.specs.Shape.{columns}
 use Rattle.parity.specs.Match.{allAnswer, matchByte}
+use Rattle.parity.specs.declared.Shape.{Shape}
 use Rattle.parity.proofs.ListLaws.{length-tabulate, getD-tabulate}
-use Rattle.schedule.specs.Schedule.{unitVector}
+use Rattle.schedule.specs.Schedule.{Entry, unitVector, testVector}
 
 -- every cell answers 1 to the input 0
 answer-zeros :
@@ -44,3 +47,9 @@ match-unit n j x row lt e =
     (answer-one (unitVector n j x) row j (size ∙ sym e) (rw size lt)
     (λ i l ne. getD-tabulate n f i 0 (rw size at l) ∙ ap (λ t. cond t x 0) (ne-eqb i j ne))
     ∙ ap (λ y. leb y (getD row j 0)) own)
+
+pub match-entry :
+    (s : Shape) (e : Entry) (row : List ℕ) → e .column < columns s → length row ≡ columns s
+    → matchByte (testVector s e) row ≡ cond (leb (e .factor * s .radix ^ e .digit) (getD row (e .column) 0)) 1 0
+unfolding testVector
+match-entry s e row = match-unit (columns s) (e .column) (e .factor * s .radix ^ e .digit) row

@@ -1,12 +1,12 @@
 -- Lengths and sums over the lists that the schedule is put together of. Assumes nothing.
-use mathlib.Core.Path.{_≡_, refl, ap, sym}
+use mathlib.Core.Path.{_≡_, refl, ap}
 use mathlib.Core.Bool.{Bool, true, false, cond}
-use mathlib.Core.List.{List, [], _∷_, _++_, map}
+use mathlib.Core.List.{List, [], _∷_, map}
 use Prim.Native.Nat.{ℕ, zero, suc, _+_, _*_, _%_, _<_}
-use native.Mathlib.Nat.{zero-add}
 use native.Mathlib.Omega.{arith}
 use lib.ListN.{length, length-append}
 use Rattle.parity.specs.Lists.{tabulate, joined, keep, sumOver, sumTo}
+use Rattle.parity.proofs.ListLaws.{sum-append}
 use Rattle.parity.proofs.Remainders.{Same, same-eq, same-add, same-mod}
 use Rattle.schedule.specs.Schedule.{overEach, atLast}
 use Rattle.schedule.proofs.All.{All}
@@ -18,10 +18,6 @@ cond-same false x = refl
 
 module _ {ℓ} {A : Type ℓ} where
   -- ---- sumOver, list by list
-
-  pub sum-append : (g : A → ℕ) (xs ys : List A) → sumOver (xs ++ ys) g ≡ sumOver xs g + sumOver ys g
-  sum-append g [] ys = sym (zero-add (sumOver ys g))
-  sum-append g (x ∷ xs) ys = omega (arith, sum-append g xs ys)
 
   pub sum-overEach : (g : A → ℕ) (js : List ℕ) (f : ℕ → List A) → sumOver (overEach js f) g ≡ sumOver js (λ j. sumOver (f j) g)
   sum-overEach g [] f = refl

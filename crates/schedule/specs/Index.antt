@@ -1,4 +1,5 @@
--- Where an entry stands in the schedule, in closed form: what a step needs to tell whether a record's place is that of its count.
+-- Only serves the code's own contracts: where an entry stands in the schedule of the full plan, in closed form, by which a step tells whether a
+-- record's place is that of its count.
 use mathlib.Core.Path.{_≡_}
 use mathlib.Core.Logic.{_≢_}
 use mathlib.Core.Bool.{Bool, _&&_}
@@ -12,8 +13,8 @@ use Rattle.parity.specs.declared.Shape.{Shape}
 use Rattle.schedule.specs.Schedule.{Entry}
 
 -- |J(ℓ)|
-unfoldable pub rowSize : Shape → ℕ → ℕ
-rowSize s ℓ = length (support s ℓ)
+unfoldable pub supportSize : Shape → ℕ → ℕ
+supportSize s ℓ = length (support s ℓ)
 
 -- how many columns of J(ℓ) stand before column j
 unfoldable pub rank : Shape → ℕ → ℕ → ℕ
@@ -24,8 +25,8 @@ unfoldable pub span : Shape → ℕ → ℕ
 span s d = levels s / s .radix ^ d
 
 -- a place of the schedule: ℓ, d, j and a within their ranges
-pub record Place (s : Shape) (ℓ d j a : ℕ) : Type 0 where
-  pub row : ℓ < checks s
+pub record IsPlace (s : Shape) (ℓ d j a : ℕ) : Type 0 where
+  pub check : ℓ < checks s
   pub digit : d < s .digits
   pub column : j < columns s
   pub held : bit ℓ (getD (matrix s) j 0) ≡ 1
@@ -36,23 +37,23 @@ pub record Place (s : Shape) (ℓ d j a : ℕ) : Type 0 where
 -- how many entries stand before the place
 unfoldable pub placeIndex : Shape → ℕ → ℕ → ℕ → ℕ → ℕ
 placeIndex s ℓ d j a =
-    (levels s - 1) * sumTo ℓ (rowSize s)
-    + rowSize s ℓ * (span s (suc d) - 1)
+    (levels s - 1) * sumTo ℓ (supportSize s)
+    + supportSize s ℓ * (span s (suc d) - 1)
     + rank s ℓ j * (span s d - span s (suc d))
     + (a - 1 - (a - 1) / s .radix)
 
 -- whether the place is the last of its ℓ and d
 unfoldable pub endsAt : Shape → ℕ → ℕ → ℕ → ℕ → Bool
-endsAt s ℓ d j a = eqb (suc (rank s ℓ j)) (rowSize s ℓ) && eqb (suc a) (span s d)
+endsAt s ℓ d j a = eqb (suc (rank s ℓ j)) (supportSize s ℓ) && eqb (suc a) (span s d)
 
 -- the entry of a place
 abbrev pub entryOf : Shape → ℕ → ℕ → ℕ → ℕ → Entry
 entryOf s ℓ d j a =
     record {
-      row = ℓ;
+      check = ℓ;
       digit = d;
       column = j;
       factor = a;
-      endsDigit = endsAt s ℓ d j a;
-      endsRow = endsAt s ℓ d j a && eqb d 0;
+      flags = endsAt s ℓ d j a;
+      resets = endsAt s ℓ d j a && eqb d 0;
     }

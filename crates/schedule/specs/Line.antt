@@ -12,17 +12,17 @@ pub record Line : Type 0 where
   pub counter : ℕ
   pub flag : ℕ
 
--- the match byte is added to the counter mod ρ
+-- every entry: the match byte is added to the counter mod ρ
 unfoldable pub counted : ℕ → ℕ → ℕ → ℕ
 counted ρ counter match = (counter + match) % ρ
 
--- at the end of each s a row whose counter isn't 0 is flagged 1; no flag falls back
+-- an entry that flags: a row whose counter isn't 0 is flagged 1; no flag falls back
 unfoldable pub flagged : Entry → ℕ → ℕ → ℕ
-flagged e counter flag = cond (e .endsDigit && not (eqb counter 0)) 1 flag
+flagged e counter flag = cond (e .flags && not (eqb counter 0)) 1 flag
 
--- counters return to 0 after the last s of an ℓ
+-- an entry that resets: counters return to 0
 unfoldable pub reset : Entry → ℕ → ℕ
-reset e counter = cond (e .endsRow) 0 counter
+reset e counter = cond (e .resets) 0 counter
 
 -- one lookup's effect on the line of a row with these cells
 unfoldable pub lineStep : Shape → List ℕ → Entry → Line → Line

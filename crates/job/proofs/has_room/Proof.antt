@@ -1,33 +1,35 @@
 -- `job::has_room` meets its contract: the first buffer that is too short makes the whole test fail. Assumes nothing.
 use mathlib.Core.Bool.{and-false}
 use borrow.Author.Tests.{le-leb, lt-leb}
+use Rattle.job.specs.Job.{enough}
 use Rattle.job.proofs.has_room.Statement.{statement}
 use Rattle.job.proofs.has_room.Tie as tie
 
 returns : tie.Need-returns
+unfolding enough
 returns c = rw (lt-leb 16384 _ (c .if1 .taken))
 
 returns-2 : tie.Need-returns-2
+unfolding enough
 returns-2 c = rw (lt-leb 4096 (c .before .before .args .counters) (c .if2 .taken), and-false)
 
 returns-3 : tie.Need-returns-3
+unfolding enough
 returns-3 c = rw (lt-leb 4096 (c .before .before .before .args .flags) (c .if3 .taken), and-false)
 
 returns-4 : tie.Need-returns-4
+unfolding enough
 returns-4 c = rw (lt-leb 4096 (c .before .before .before .before .args .matches) (c .if4 .taken), and-false)
 
 returns-5 : tie.Need-returns-5
-returns-5 c = rw (lt-leb 200000 (c .before .before .before .before .before .args .out) (c .if5 .taken), and-false)
-
-returns-6 : tie.Need-returns-6
-returns-6 c =
+unfolding enough
+returns-5 c =
     rw (
-      le-leb 16384 _ (c .before .before .before .before .if1 .left),
-      le-leb 4096 _ (c .before .before .before .if2 .left),
-      le-leb 4096 _ (c .before .before .if3 .left),
-      le-leb 4096 _ (c .before .if4 .left),
-      le-leb 200000 _ (c .if5 .left),
+      le-leb 16384 _ (c .before .before .before .if1 .left),
+      le-leb 4096 _ (c .before .before .if2 .left),
+      le-leb 4096 _ (c .before .if3 .left),
+      le-leb 4096 _ (c .if4 .left),
     )
 
 pub has-room-spec : {M : Type 1} → statement M
-has-room-spec = tie.close (tie.spec returns returns-2 returns-3 returns-4 returns-5 returns-6)
+has-room-spec = tie.close (tie.spec returns returns-2 returns-3 returns-4 returns-5)

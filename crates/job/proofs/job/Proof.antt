@@ -1,9 +1,9 @@
 -- `job::job` meets its contract: a job that is taken is run on the front parts of its buffers, and its report is its head with the lines of
 -- its rows behind. Assumes nothing.
-use mathlib.Core.Path.{_≡_, sym, _∙_, ap, ap₂, subst}
-use mathlib.Core.Bool.{true, not, Bool·not-not}
+use mathlib.Core.Path.{_≡_, sym, _∙_, ap, subst}
+use mathlib.Core.Bool.{Bool, true, not, Bool·not-not}
 use mathlib.Core.List.{List, _++_}
-use Prim.Native.Nat.{ℕ, _+_, _*_, _≤_}
+use Prim.Native.Nat.{ℕ, _*_, _≤_}
 use native.Mathlib.Omega.{arith}
 use lib.ListN.{length, take, drop, length-append}
 use lib.Seq.{length-take-le, take-at}
@@ -11,96 +11,170 @@ use borrow.Author.Needs.{needs}
 use Rattle.parity.specs.Shape.{columns}
 use Rattle.parity.specs.declared.Shape.{Shape}
 use Rattle.parity.proofs.Taken.{limits}
-use Rattle.limits.specs.Shapes.{sizesOf}
-use Rattle.limits.proofs.Refusals.{passed-by, refused-by}
-use Rattle.array.specs.Arrays.{cellCount}
-use Rattle.parse.specs.Parse.{jobShape, jobRefusal}
-use Rattle.text.specs.Text.{headText, rowsText}
-use Rattle.job.specs.Job.{jobState, reportText, jobText, roomy}
-use Rattle.text.proofs.Written.{Wrote, wrote-append}
+use Rattle.shape.proofs.Refusals.{told, fails, Passes, passes}
+use Rattle.array_memory.specs.Memory.{withAll, noMemory, cellCount}
+use Rattle.cycle.specs.Calls.{State, stateOf}
+use Rattle.job_parse.specs.Parse.{jobShape, jobQuestions, jobRefusal}
+use Rattle.job_text.specs.Text.{headText, rowsText}
+use Rattle.job_text.specs.Written.{Wrote}
+use Rattle.job_text.proofs.Lengths.{head-short}
+use Rattle.job_text.proofs.Written.{wrote-append}
+use Rattle.job.specs.Job.{Space, space, roomy, printed, reportText}
 use Rattle.job.proofs.TakenJob.{TakenJob, takenJob}
-use Rattle.job.proofs.JobText.{refused-text, report-text, Room, room, gives-none, gives-text}
+use Rattle.job.proofs.JobSpace.{Room, room, front-written, no-room, refused-job, taken-job}
 use Rattle.job.proofs.job.Statement.{statement}
 use Rattle.job.proofs.job.Tie as tie
 
--- ---- what is known at the places of the calls
+-- ---- the places of the call and of its parts, each from one that follows
 
-abbrev entered : tie.Else1 → tie.Start
-entered c = c .before .before .before .before .before .before .before .before
+abbrev begun : tie.After-has-room → tie.Start
+begun c = c .before .before .before .before .before .before .before
 
-enough :
-    (c : tie.Else1)
-    → let args = entered c .args in
-    roomy (args .cells .now) (args .counters .now) (args .flags .now) (args .matches .now) (args .out .now) ≡ true
-unfolding roomy
-enough c = sym (c .before .has-room .ensures) ∙ sym (Bool·not-not (c .before .has-room .result)) ∙ ap not (c .if1 .left)
+abbrev refusing : tie.After-put-refusal-arg → tie.Else1
+refusing c = c .before .before .before .before .before
 
-long : (c : tie.Else1) → let args = entered c .args in Room (args .cells .now) (args .counters .now) (args .flags .now) (args .matches .now) (args .out .now)
-long c = room _ _ _ _ _ (enough c)
-
--- of a job that is taken
-abbrev roomed : tie.After-sizes → tie.Else1
-roomed c = c .before .before .before
-
-passed :
-    (c : tie.After-sizes)
-    → let input = entered (roomed c) .args .input .now in
-    (jobRefusal input ≡ 0) × (c .sizes .given .0 .0 ≡ sizesOf (jobShape input))
-passed c = passed-by _ _ _ (sym (c .before .before .check-job .ensures) ∙ c .sizes .given .1)
-
-job-taken : (c : tie.After-sizes) → TakenJob (entered (roomed c) .args .input .now)
-job-taken c = takenJob _ (passed c .0)
-
--- its sizes, and that its parts fit
-module _ (c : tie.After-shape-of) where
-  abbrev s : Shape
-  s = c .shape-of .result
-
-  abbrev sized : tie.After-sizes
-  sized = c .before .before
-
-  rows-few : s .rows ≤ 4096
-  rows-few = rw (c .shape-of .ensures) (limits _ (job-taken sized .taken) .rowsHigh)
-
-  end-is : s .rows * sized .sizes .given .0 .0 .columns ≡ cellCount s
-  unfolding cellCount
-  end-is = ap (λ z. s .rows * z .columns) (passed sized .1) ∙ ap (λ x. s .rows * columns x) (sym (c .shape-of .ensures))
-
-  cells-few : s .rows * sized .sizes .given .0 .0 .columns ≤ 16384
-  cells-few = rw (end-is, c .shape-of .ensures) (job-taken sized .cells)
-
-  -- the parts that are lent
-  cells-fit : s .rows * sized .sizes .given .0 .0 .columns ≤ length (entered (roomed sized) .args .cells .now)
-  cells-fit = omega (arith, cells-few, long (roomed sized) .cellsLong)
-
-  counters-fit : s .rows ≤ length (entered (roomed sized) .args .counters .now)
-  counters-fit = omega (arith, rows-few, long (roomed sized) .countersLong)
-
-  flags-fit : s .rows ≤ length (entered (roomed sized) .args .flags .now)
-  flags-fit = omega (arith, rows-few, long (roomed sized) .flagsLong)
-
-  matches-fit : s .rows ≤ length (entered (roomed sized) .args .matches .now)
-  matches-fit = omega (arith, rows-few, long (roomed sized) .matchesLong)
-
-abbrev shaped : tie.After-run-calls → tie.After-shape-of
+abbrev shaped : tie.After-run-calls → tie.After-struct-known
 shaped c = c .before .before .before .before .before
 
-abbrev ran : tie.After-put-head → tie.After-run-calls
-ran c = c .before .before .before .before .before .before .before .before .before .before
+abbrev ran : tie.After-put-head-arg → tie.After-run-calls
+ran c = c .before .before .before .before .before .before .before .before .before
 
--- the flags that the run leaves
-abbrev flags-left : tie.After-run-calls → List ℕ
-flags-left c = c .run-calls .last .1 .1 .1 .1 .0
+abbrev headed : tie.After-put-rows-arg2 → tie.After-put-head
+headed c = c .before .before .before .before
 
-left-length : (c : tie.After-run-calls) → length (flags-left c) ≡ s (shaped c) .rows
-left-length c = c .run-calls .kept .1 .1 .1 .1 .0 ∙ length-take-le _ _ (flags-fit (shaped c))
+-- ---- what is known there
 
--- the flags as a whole, and their front part
-abbrev flags-now : tie.After-run-calls → List ℕ
-flags-now c = flags-left c ++ drop (s (shaped c) .rows) (entered (roomed (sized (shaped c))) .args .flags .now)
+-- the buffers as they are lent
+abbrev lent : tie.Start → Space
+lent c = space (c .args .cells .now) (c .args .counters .now) (c .args .flags .now) (c .args .matches .now) (c .args .out .now)
 
-front : (c : tie.After-run-calls) → take (s (shaped c) .rows) (flags-now c) ≡ flags-left c
-front c = take-at (flags-left c) _ (s (shaped c) .rows) (left-length c)
+roomed : (c : tie.After-has-room) (short : Bool) → not (c .has-room .result) ≡ short → roomy (lent (begun c)) ≡ not short
+roomed c short e = sym (c .has-room .ensures) ∙ sym (Bool·not-not (c .has-room .result)) ∙ ap not e
+
+module _ (c : tie.Else1) where
+  abbrev entered : tie.Start
+  entered = begun (c .before)
+
+  has : roomy (lent entered) ≡ true
+  has = roomed (c .before) _ (c .if1 .left)
+
+  long : Room (lent entered)
+  long = room (lent entered) has
+
+-- of a job that is taken
+module _ (c : tie.After-sizes) where
+  abbrev start : tie.Start
+  start = entered (c .before .before .before)
+
+  passed : Passes (jobQuestions (start .args .input .now)) (jobShape (start .args .input .now)) (c .sizes .given .0 .0)
+  unfolding jobRefusal
+  passed = passes _ _ _ (told (c .before .before .check-job .ensures) (c .sizes .given .1))
+
+  none : jobRefusal (start .args .input .now) ≡ 0
+  unfolding jobRefusal
+  none = passed .none
+
+  job-taken : TakenJob (start .args .input .now)
+  job-taken = takenJob _ none
+
+-- its sizes, and that its parts fit
+module _ (c : tie.After-struct-known) where
+  abbrev s : Shape
+  s = c .before .shape-of .result
+
+  abbrev sized : tie.After-sizes
+  sized = c .before .before .before
+
+  abbrev end : ℕ
+  end = s .rows * sized .sizes .given .0 .0 .columns
+
+  abbrev given : Space
+  given = lent (start sized)
+
+  space-long : Room given
+  space-long = long (sized .before .before .before)
+
+  rows-few : s .rows ≤ 4096
+  rows-few = rw (c .before .shape-of .ensures) (limits _ (job-taken sized .taken) .rowsHigh)
+
+  end-is : end ≡ cellCount s
+  unfolding cellCount
+  end-is = ap (λ z. s .rows * z .columns) (passed sized .sizes) ∙ ap (λ x. s .rows * columns x) (sym (c .before .shape-of .ensures))
+
+  cells-few : end ≤ 16384
+  cells-few = rw (end-is, c .before .shape-of .ensures) (job-taken sized .cells)
+
+  -- the parts that are lent
+  cells-fit : end ≤ length (given .cells)
+  cells-fit = omega (arith, cells-few, space-long .cells)
+
+  counters-fit : s .rows ≤ length (given .counters)
+  counters-fit = omega (arith, rows-few, space-long .counters)
+
+  flags-fit : s .rows ≤ length (given .flags)
+  flags-fit = omega (arith, rows-few, space-long .flags)
+
+  matches-fit : s .rows ≤ length (given .matches)
+  matches-fit = omega (arith, rows-few, space-long .matches)
+
+-- what the run leaves in the parts
+module _ (c : tie.After-run-calls) where
+  abbrev h : tie.After-struct-known
+  h = shaped c
+
+  abbrev parts : Space
+  parts =
+      let last = c .run-calls .last .1 .1 in
+      space (last .0) (last .1 .0) (last .1 .1 .0) (last .1 .1 .1 .0) (given h .out)
+
+  cells-length : length (parts .cells) ≡ end h
+  cells-length = c .run-calls .kept .1 .1 .0 ∙ length-take-le _ _ (cells-fit h)
+
+  counters-length : length (parts .counters) ≡ s h .rows
+  counters-length = c .run-calls .kept .1 .1 .1 .0 ∙ length-take-le _ _ (counters-fit h)
+
+  flags-length : length (parts .flags) ≡ s h .rows
+  flags-length = c .run-calls .kept .1 .1 .1 .1 .0 ∙ length-take-le _ _ (flags-fit h)
+
+  matches-length : length (parts .matches) ≡ s h .rows
+  matches-length = c .run-calls .kept .1 .1 .1 .1 .1 .0 ∙ length-take-le _ _ (matches-fit h)
+
+  -- the flags as a whole, and their front part
+  abbrev flags-now : List ℕ
+  flags-now = parts .flags ++ drop (s h .rows) (given h .flags)
+
+  front : take (s h .rows) flags-now ≡ parts .flags
+  front = take-at (parts .flags) _ (s h .rows) flags-length
+
+  flags-front : length (take (s h .rows) flags-now) ≡ s h .rows
+  flags-front = ap length front ∙ flags-length
+
+  -- the state when the calls are over
+  abbrev after : State
+  after = stateOf (withAll (parts .cells) (parts .counters) (parts .flags) noMemory) (c .run-calls .result)
+
+-- the first line is short, whatever is in it
+line-end : (levels columns count : ℕ) {end : ℕ} {out after : List ℕ} → Wrote 0 (headText levels columns count) out end after → end ≤ 86
+line-end levels columns count w = omega (arith, w .place, head-short levels columns count)
+
+head-end : (c : tie.After-put-head) → c .put-head .result ≤ 86
+head-end c = line-end _ _ _ (c .put-head .ensures)
+
+-- the texts, one behind the other, are the report of that state
+report :
+    (c : tie.After-put-rows)
+    → let r = ran (headed (c .before) .before) in
+    Wrote 0 (reportText (jobShape (start (sized (h r)) .args .input .now)) (after r)) (given (h r) .out) (c .put-rows .result) (c .put-rows .last .0)
+unfolding reportText
+report c =
+    let head = headed (c .before) in
+    let r = ran (head .before) in
+    let sizes = passed (sized (h r)) .sizes in
+    let input = start (sized (h r)) .args .input .now in
+    let rows : length (take (s (h r) .rows) (flags-now r)) ≡ jobShape input .rows = flags-front r ∙ ap (λ s. s .rows) (h r .before .shape-of .ensures) in
+    subst (λ text. Wrote 0 text (given (h r) .out) (c .put-rows .result) (c .put-rows .last .0))
+    (λ i. headText (sizes i .levels) (sizes i .columns) (r .run-calls .result .count) ++ rowsText (rows i) (front r i))
+    (wrote-append (omega (arith, head-end head, space-long (h r) .out)) (head .put-head .ensures) (c .put-rows .ensures))
 
 -- ---- the needs
 
@@ -108,11 +182,7 @@ has-room-requires : tie.Need-has-room-requires
 has-room-requires c κs = search needs
 
 returns : tie.Need-returns
-unfolding roomy
-returns c =
-    let args = c .before .before .before .before .before .before .before .before .args in
-    gives-none (args .cells .now) (args .counters .now) (args .flags .now) (args .matches .now) (args .out .now) (jobText (args .input .now))
-    (sym (c .before .has-room .ensures) ∙ sym (Bool·not-not (c .before .has-room .result)) ∙ ap not (c .if1 .taken))
+returns c = no-room (begun (c .before) .args .input .now) (lent (begun (c .before))) (roomed (c .before) _ (c .if1 .taken))
 
 check-job-requires : tie.Need-check-job-requires
 check-job-requires c κs = search needs
@@ -121,7 +191,7 @@ enum-known-number : tie.Need-enum-known-number
 enum-known-number c = search needs
 
 put-refusal-requires : tie.Need-put-refusal-requires
-put-refusal-requires c κs = let l = long (c .before .before .before .before .before) in (omega (arith, l .outLong), l .outHigh)
+put-refusal-requires c κs = omega (arith, long (refusing c) .out)
 
 enum-known-sizes : tie.Need-enum-known-sizes
 enum-known-sizes c = search needs
@@ -159,53 +229,47 @@ slice-aggregate-run-calls-4 c = sym (length-take-le _ _ (matches-fit (c .before 
 run-calls-requires : tie.Need-run-calls-requires
 run-calls-requires c κs =
     let h = c .before .before .before .before in (
-      (passed (sized h) .0, h .shape-of .ensures),
+      (none (sized h), h .before .shape-of .ensures),
       (
-        length-take-le _ _ (cells-fit h) ∙ end-is h,
-        length-take-le _ _ (counters-fit h),
-        length-take-le _ _ (flags-fit h),
+        record {
+          cells = length-take-le _ _ (cells-fit h) ∙ end-is h;
+          counters = length-take-le _ _ (counters-fit h);
+          flags = length-take-le _ _ (flags-fit h);
+        },
         length-take-le _ _ (matches-fit h),
       ),
     )
 
 put-head-requires : tie.Need-put-head-requires
-put-head-requires c κs =
-    let r = c .before .before .before .before .before .before .before .before .before in
-    let l = long (roomed (sized (shaped r))) in
-    (omega (arith, l .outLong), l .outHigh)
+put-head-requires c κs = omega (arith, space-long (h (ran c)) .out)
 
 slice-reshare-prefix-put-rows : tie.Need-slice-reshare-prefix-put-rows
 slice-reshare-prefix-put-rows c =
-    let r = ran (c .before .before .before) in
-    omega (arith, left-length r, length-append (flags-left r) (drop (s (shaped r) .rows) (entered (roomed (sized (shaped r))) .args .flags .now)))
+    let r = ran (c .before .before .before .before) in
+    omega (arith, flags-length r, length-append (parts r .flags) (drop (s (h r) .rows) (given (h r) .flags)))
 
 slice-aggregate-put-rows : tie.Need-slice-aggregate-put-rows
-slice-aggregate-put-rows c =
-    let r = ran (c .before .before .before .before) in
-    sym (ap length (front r) ∙ left-length r)
+slice-aggregate-put-rows c = sym (flags-front (ran (headed c .before)))
 
 put-rows-requires : tie.Need-put-rows-requires
 put-rows-requires c κs =
-    let headed = c .before .before .before .before in
-    let r = ran headed in
-    let l = long (roomed (sized (shaped r))) in
-    let kept = headed .put-head .kept .0 in
-    let part = ap length (front r) ∙ left-length r in
-    (omega (arith, headed .put-head .ensures .0 .1, rows-few (shaped r), l .outLong), omega (arith, l .outHigh))
+    let head = headed c in
+    let r = ran (head .before) in
+    omega (arith, head-end head, flags-front r, rows-few (h r), head .put-head .kept .0, space-long (h r) .out)
 
 same-length : tie.Need-same-length
 same-length c = search needs
 
 returns-2 : tie.Need-returns-2
+unfolding jobRefusal
 returns-2 c =
     let put = c .before .before in
     let named = put .before .before .before in
-    let roomed = named .before .before .before in
-    let args = entered roomed .args in
-    let fails = refused-by _ _ _ (sym (named .before .before .check-job .ensures) ∙ named .number .given .1) in
-    let text = refused-text (args .input .now) _ fails in
-    gives-text _ _ _ _ (args .out .now) (jobText (args .input .now)) (enough roomed)
-    (subst (λ text. Wrote 0 text (args .out .now) (put .put-refusal .result) (put .put-refusal .last .0)) text (omega (arith, put .put-refusal .ensures .0), put .put-refusal .ensures .1))
+    let room = refusing (put .before) in
+    let input = entered room .args .input .now in
+    refused-job input (lent (entered room)) (has room) (named .number .given .0 .0)
+    (fails (jobQuestions input) (jobShape input) _ (told (named .before .before .check-job .ensures) (named .number .given .1)))
+    (put .put-refusal .ensures)
 
 same-length-2 : tie.Need-same-length-2
 same-length-2 c = search needs
@@ -223,29 +287,18 @@ same-length-6 : tie.Need-same-length-6
 same-length-6 c = search needs
 
 returns-3 : tie.Need-returns-3
-unfolding reportText
 returns-3 c =
     let put = c .before .before in
-    let headed = put .before .before .before .before .before in
-    let r = ran headed in
-    let h = shaped r in
-    let args = entered (roomed (sized h)) .args in
-    let head = headed .put-head in
-    let rows = put .put-rows in
-    let input = args .input .now in
-    let sizes = sized h .sizes .given .0 .0 in
-    let st = jobState input in
-    let flags = take (s h .rows) (flags-now r) in
-    let lines : rowsText (length flags) flags ≡ rowsText (jobShape input .rows) (st .flags)
-    = ap₂ rowsText (ap length (front r) ∙ left-length r ∙ ap (λ x. x .rows) (h .shape-of .ensures)) (front r ∙ r .run-calls .ensures .1) in
-    let told : headText (sizes .levels) (sizes .columns) (r .run-calls .result .count) ++ rowsText (length flags) flags ≡ reportText (jobShape input) st =
-    λ i. headText (passed (sized h) .1 i .levels) (passed (sized h) .1 i .columns) (r .run-calls .ensures .0 i .count) ++ lines i in
-    gives-text (args .cells .now) (args .counters .now) (args .flags .now) (args .matches .now) (args .out .now) (jobText input) (enough (roomed (sized h)))
-    (subst (λ text. Wrote 0 text (args .out .now) (rows .result) (rows .last .0)) (told ∙ report-text input (passed (sized h) .0))
-    (wrote-append 0 (headText (sizes .levels) (sizes .columns) (r .run-calls .result .count)) (rowsText (length flags) flags) (args .out .now)
-    (omega (arith, head .ensures .0 .1, long (roomed (sized h)) .outLong))
-    (omega (arith, head .ensures .0 .0), head .ensures .1)
-    (rows .ensures)))
+    let r = ran (headed (put .before) .before) in
+    let sp = given (h r) in
+    let left = parts r in
+    taken-job (start (sized (h r)) .args .input .now) sp (has (sized (h r) .before .before .before)) (none (sized (h r))) (left .matches) (after r)
+    (r .run-calls .ensures) (report put)
+    ∙ (λ i.
+    printed (put .put-rows .result)
+    (space (front-written (left .cells) (sp .cells) _ (cells-length r) i) (front-written (left .counters) (sp .counters) _ (counters-length r) i)
+    (front-written (left .flags) (sp .flags) _ (flags-length r) i) (front-written (left .matches) (sp .matches) _ (matches-length r) i)
+    (put .put-rows .last .0)))
 
 pub job-spec : {M : Type 1} → statement M
 job-spec =

@@ -8,9 +8,6 @@ use lib.Seq.{length-take-le}
 use borrow.Author.Needs.{needs}
 use Rattle.paper.proofs.lookups_made.Statement.{statement}
 use Rattle.paper.proofs.lookups_made.Tie as tie
-use Rattle.paper.proofs.lookups_made.Reads as reads
-use Rattle.paper.proofs.lookups_made.Lts as lts
-use Rattle.whole.proofs.run_cycle.Reads as run-reads
 
 -- the cells
 abbrev zeros : List ℕ

@@ -1,17 +1,20 @@
 -- `run_job::main` meets its contract: the text is within its buffer. Assumes nothing.
 use mathlib.Core.Path.{sym, _∙_, subst}
 use Prim.Native.Nat.{ℕ, _≤_}
-use native.Mathlib.Omega.{arith}
-use lib.ListN.{length-replicate}
+use lib.ListN.{length, length-replicate}
 use lib.Seq.{length-take-le}
 use borrow.Author.Needs.{needs}
 use Rattle.run_job.proofs.main.Statement.{statement}
 use Rattle.run_job.proofs.main.Tie as tie
-use Rattle.run_job.proofs.main.Reads as reads
-use Rattle.run_job.proofs.main.Lts as lts
-use Rattle.io.proofs.read_full.Reads as read-full-reads
-use Rattle.io.proofs.write_all.Reads as write-all-reads
-use Rattle.job.proofs.job.Reads as job-reads
+
+-- the place of the job, from that of its text
+abbrev called : tie.Else1 → tie.After-job
+called c = c .before .before .before .before .before .before
+
+-- the text ends within the buffer
+within : (c : tie.Else1) → called c .job .result ≤ length (called c .job .last .1 .1 .1 .1 .1 .0)
+within c =
+    subst (λ n. called c .job .result ≤ n) (sym (called c .job .kept .1 .1 .1 .1 .1 .0 ∙ length-replicate {A = ℕ} 200000 0)) (c .if1 .left)
 
 slice-aggregate-read-full : tie.Need-slice-aggregate-read-full
 slice-aggregate-read-full c = search needs
@@ -47,15 +50,10 @@ returns : tie.Need-returns
 returns c = search needs
 
 array-share-prefix-out : tie.Need-array-share-prefix-out
-array-share-prefix-out c =
-    let call = c .before .before .before .before .before .before .job in
-    subst (λ n. call .result ≤ n) (sym (call .kept .1 .1 .1 .1 .1 .0 ∙ length-replicate {A = ℕ} 200000 0)) (c .if1 .left)
+array-share-prefix-out c = within c
 
 slice-aggregate-write-all : tie.Need-slice-aggregate-write-all
-slice-aggregate-write-all c =
-    let call = c .before .before .before .before .before .before .before .job in
-    sym (length-take-le (call .result) (call .last .1 .1 .1 .1 .1 .0)
-    (subst (λ n. call .result ≤ n) (sym (call .kept .1 .1 .1 .1 .1 .0 ∙ length-replicate {A = ℕ} 200000 0)) (c .before .if1 .left)))
+slice-aggregate-write-all c = sym (length-take-le _ _ (within (c .before)))
 
 write-all-requires : tie.Need-write-all-requires
 write-all-requires c κs = search needs

@@ -1,19 +1,14 @@
 -- `acam::encode::add_check_digits` meets its contract: the first l cells have their digit, the rest is as it was. Assumes nothing.
 use mathlib.Core.Path.{_≡_, refl, _∙_, ap, ap₂}
-use mathlib.Core.List.{List}
 use Prim.Native.Nat.{ℕ, _+_, _-_, _*_, _≤_, _<_}
 use native.Mathlib.Nat.{mod-lt, le-of-lt}
 use native.Mathlib.Omega.{arith}
 use lib.ListN.{length, getD, set, length-set}
 use borrow.Author.Needs.{needs}
 use Rattle.parity.proofs.Filled.{filled, filled-here, filled-next, filled-all}
-use Rattle.acam.proofs.DigitCells.{missing}
+use Rattle.acam.specs.Digits.{missing, completed}
 use Rattle.acam.proofs.encode.add_check_digits.Statement.{statement}
 use Rattle.acam.proofs.encode.add_check_digits.Tie as tie
-
--- check cell l with the digit that brings the sum of its check row to 0 mod ρ
-abbrev completed : List ℕ → List ℕ → ℕ → ℕ → ℕ → ℕ
-completed cells sums radix power l = getD cells l 0 + missing radix (getD sums l 0) * power
 
 abbrev Inv-loop : tie.InvT-loop
 Inv-loop cells₀ radix power sums l₀ cells l =
@@ -21,6 +16,13 @@ Inv-loop cells₀ radix power sums l₀ cells l =
 
 abbrev μ-loop : tie.MeasureT-loop
 μ-loop cells₀ radix power sums l₀ cells l = length cells₀ - l
+
+-- the places of the call and of the loop, each from one that follows
+abbrev begun : tie.At-loop Inv-loop μ-loop → tie.Start Inv-loop μ-loop
+begun c = c .before .before
+
+abbrev looped : tie.After-wide Inv-loop μ-loop → tie.At-loop Inv-loop μ-loop
+looped c = c .before .before .before
 
 loop-holds : tie.Need-loop-holds Inv-loop μ-loop
 loop-holds c = (omega arith, refl, refl)
@@ -35,7 +37,7 @@ rem-digit : tie.Need-rem-digit Inv-loop μ-loop
 rem-digit c = omega arith
 
 sub-digit : tie.Need-sub-digit Inv-loop μ-loop
-sub-digit c = let args = c .before .before .before .args in le-of-lt (mod-lt (getD (args .t2) (c .before .loop .l) 0) (omega arith))
+sub-digit c = let args = begun (c .before) .args in le-of-lt (mod-lt (getD (args .t2) (c .before .loop .l) 0) (omega arith))
 
 rem-digit-2 : tie.Need-rem-digit-2 Inv-loop μ-loop
 rem-digit-2 c = omega arith
@@ -49,15 +51,15 @@ wide-requires c κs = search needs
 -- the cell as it was, and that it stays a byte with its digit
 cell :
     (c : tie.After-wide Inv-loop μ-loop)
-    → let args = c .before .before .before .before .before .args in
-    let l = c .before .before .before .loop .l in
+    → let args = begun (looped c) .args in
+    let l = looped c .loop .l in
     (c .wide .result ≡ getD (args .cells .now) l 0) × (completed (args .cells .now) (args .t2) (args .radix) (args .power) l < 256)
 cell c =
-    let args = c .before .before .before .before .before .args in
-    let loop = c .before .before .before .loop in
+    let args = begun (looped c) .args in
+    let loop = looped c .loop in
     let f : ℕ → ℕ = completed (args .cells .now) (args .t2) (args .radix) (args .power) in (
       c .wide .ensures ∙ ap (λ xs. getD xs (loop .l) 0) (loop .inv .2) ∙ filled-here f (args .cells .now) (loop .l) 0,
-      c .before .before .before .before .before .pre .1 (loop .l) (omega arith),
+      begun (looped c) .pre .1 (loop .l) (omega arith),
     )
 
 mul-cells : tie.Need-mul-cells Inv-loop μ-loop
@@ -80,8 +82,8 @@ loop-less c = omega arith
 
 loop-again : tie.Need-loop-again Inv-loop μ-loop
 loop-again c =
-    let args = c .before .before .before .before .before .args in
-    let loop = c .before .before .before .loop in (
+    let args = begun (looped c) .args in
+    let loop = looped c .loop in (
       omega arith,
       simp length-set (loop .inv .1),
       ap₂ (λ xs v. set xs (loop .l) v) (loop .inv .2) (ap (λ v. v + missing (args .radix) (getD (args .t2) (loop .l) 0) * args .power) (cell c .0))
@@ -93,7 +95,7 @@ same-length c = omega arith
 
 returns : tie.Need-returns Inv-loop μ-loop
 returns c =
-    let args = c .before .before .before .args in
+    let args = begun (c .before) .args in
     c .before .loop .inv .2
     ∙ filled-all (completed (args .cells .now) (args .t2) (args .radix) (args .power)) (args .cells .now) (c .before .loop .l) (omega arith)
 

@@ -16,9 +16,10 @@ use Rattle.parity.proofs.Sums.{checkSum}
 use Rattle.parity.proofs.Taken.{limits}
 use Rattle.parity.proofs.Redundancy.{redundancyClaim}
 use Rattle.acam.proofs.Tail.{tail-is, tail-put}
-use Rattle.matrix.proofs.MatrixArray.{array-rules}
+use Rattle.acam.proofs.MatrixArray.{array-rules}
 use Rattle.acam.proofs.DigitLoop.{power-high, power-next, power-fits, sums-ready, sum-at}
-use Rattle.acam.proofs.DigitCells.{missing, cellAt, no-digits, cell-below, next-digit, all-digits}
+use Rattle.acam.specs.Digits.{missing}
+use Rattle.acam.proofs.DigitCells.{cellAt, no-digits, cell-below, next-digit, all-digits}
 use Rattle.acam.proofs.encode.write_checks.Statement.{statement}
 use Rattle.acam.proofs.encode.write_checks.Tie as tie
 
@@ -73,10 +74,20 @@ Inv-loop row₀ columns radix digits width power₀ s₀ row power s =
 abbrev μ-loop : tie.MeasureT-loop
 μ-loop row₀ columns radix digits width power₀ s₀ row power s = digits - s
 
+-- the places of the call and of the loop, each from one that follows
+abbrev begun : tie.After-slice-known2 Inv-loop μ-loop → tie.Start Inv-loop μ-loop
+begun c = c .before .before .before .before .before
+
+abbrev looped : tie.After-digit-sums Inv-loop μ-loop → tie.At-loop Inv-loop μ-loop
+looped c = c .before .before .before .before
+
+abbrev summed : tie.After-slice-known3 Inv-loop μ-loop → tie.After-digit-sums Inv-loop μ-loop
+summed c = c .before .before .before .before
+
 -- the row where the loop begins
-abbrev begun : tie.After-slice-known2 Inv-loop μ-loop → List ℕ
-begun c =
-    let args = c .before .before .before .before .before .args in
+abbrev first : tie.After-slice-known2 Inv-loop μ-loop → List ℕ
+first c =
+    let args = begun c .args in
     putMid (args .shape .width) (length (args .row .now) - args .shape .width) (args .row .now) (c .before .before .fill .last .0)
 
 sub-fill : tie.Need-sub-fill Inv-loop μ-loop
@@ -96,17 +107,17 @@ fill-requires c κs = search needs
 loop-holds : tie.Need-loop-holds Inv-loop μ-loop
 unfolding columns
 loop-holds c =
-    let args = c .before .before .before .before .before .args in
+    let args = begun c .args in
     let k = args .shape .width in
     let row = args .row .now in
-    let many : length (midOf k (length row - k) row) ≡ length (begun c) - k = omega (arith, mid-len k (length row) row (le-refl (length row))) in (
+    let many : length (midOf k (length row - k) row) ≡ length (first c) - k = omega (arith, mid-len k (length row) row (le-refl (length row))) in (
       omega arith,
       sym (pow-zero (args .shape .radix)),
       refl,
       refl,
       tail-put k row (c .before .before .fill .last .0) (omega arith) ∙ c .before .before .fill .ensures
-          ∙ no-digits (args .shape .radix) (take k (args .columns .now)) (take k (begun c)) (length (midOf k (length row - k) row))
-          ∙ ap (λ r. tabulate r (cellAt (args .shape .radix) (take k (args .columns .now)) (take k (begun c)) 0)) many,
+          ∙ no-digits (args .shape .radix) (take k (args .matrix .now)) (take k (first c)) (length (midOf k (length row - k) row))
+          ∙ ap (λ r. tabulate r (cellAt (args .shape .radix) (take k (args .matrix .now)) (take k (first c)) 0)) many,
     )
 
 slice-reshare-prefix-digit-sums : tie.Need-slice-reshare-prefix-digit-sums Inv-loop μ-loop
@@ -116,28 +127,28 @@ slice-reshare-prefix-digit-sums c = omega arith
 slice-aggregate-digit-sums : tie.Need-slice-aggregate-digit-sums Inv-loop μ-loop
 unfolding columns
 slice-aggregate-digit-sums c =
-    let args = c .before .before .before .before .before .before .before .before .args in
-    sym (length-take-le (args .shape .width) (c .before .before .loop .row) (omega arith))
+    let loop = c .before .before in
+    sym (length-take-le (begun (loop .before) .args .shape .width) (loop .loop .row) (omega arith))
 
 digit-sums-requires : tie.Need-digit-sums-requires Inv-loop μ-loop
 unfolding columns
 digit-sums-requires c κs =
-    let start = c .before .before .before .before .before .before .before .before .before in
+    let start = begun (c .before .before .before .before) in
     let loop = c .before .before .before .loop in
     let k = start .args .shape .width in
-    sums-ready (start .args .shape) (start .pre .0) (loop .s) (loop .power) (loop .inv .1) (omega arith) (start .args .columns .now) (take k (loop .row))
+    sums-ready (start .args .shape) (start .pre .0) (loop .s) (loop .power) (loop .inv .1) (omega arith) (start .args .matrix .now) (take k (loop .row))
     (start .pre .2) (omega (arith, length-take k (loop .row)))
 
 turn :
     (c : tie.After-digit-sums Inv-loop μ-loop)
-    → let args = c .before .before .before .before .before .before .before .before .before .before .args in
-    let loop = c .before .before .before .before .loop in
-    Turn (args .shape .radix) (args .shape .width) (args .columns .now) (begun (c .before .before .before .before .before)) (loop .s) (loop .power) (loop .row)
-    (c .digit-sums .result)
+    → let filled = looped c .before in
+    let args = begun filled .args in
+    let loop = looped c .loop in
+    Turn (args .shape .radix) (args .shape .width) (args .matrix .now) (first filled) (loop .s) (loop .power) (loop .row) (c .digit-sums .result)
 unfolding columns
 turn c =
-    let start = c .before .before .before .before .before .before .before .before .before .before in
-    let loop = c .before .before .before .before .loop in
+    let start = begun (looped c .before) in
+    let loop = looped c .loop in
     record {
       powered = loop .inv .1;
       fits = omega arith;
@@ -154,30 +165,32 @@ part-add-check-digits-start : tie.Need-part-add-check-digits-start Inv-loop μ-l
 part-add-check-digits-start c = turn c .fits
 
 part-add-check-digits-end : tie.Need-part-add-check-digits-end Inv-loop μ-loop
-part-add-check-digits-end c = le-refl (length (c .before .before .before .before .loop .row))
+part-add-check-digits-end c = le-refl (length (looped c .loop .row))
 
 add-check-digits-requires : tie.Need-add-check-digits-requires Inv-loop μ-loop
 unfolding lent
 add-check-digits-requires c κs =
-    let start = c .before .before .before .before .before .before .before .before .before .before .before in
+    let filled = looped (c .before) .before in
+    let start = begun filled in
     let shape = start .args .shape in
-    let loop = c .before .before .before .before .before .loop in
-    let rule : List ℕ = take (shape .width) (begun (c .before .before .before .before .before .before)) in
+    let loop = looped (c .before) .loop in
+    let rule : List ℕ = take (shape .width) (first filled) in
     let t = turn (c .before) in
     let pos : 0 < shape .radix = omega (arith, limits shape (start .pre .0) .radixLow) in (
       (pos, omega (arith, lent-length t, t .few)),
       λ l h. omega (
         arith,
         added t l (omega (arith, lent-length t)),
-        cell-below (shape .radix) (take (shape .width) (start .args .columns .now)) rule (suc (loop .s)) l pos,
+        cell-below (shape .radix) (take (shape .width) (start .args .matrix .now)) rule (suc (loop .s)) l pos,
         power-high shape (start .pre .0) (loop .s) (omega arith),
       ),
     )
 
 mul-power : tie.Need-mul-power Inv-loop μ-loop
 mul-power c =
-    let start = c .before .before .before .before .before .before .before .before .before .before .before .before .before .before in
-    let loop = c .before .before .before .before .before .before .before .before .loop in
+    let sums = summed c in
+    let start = begun (looped sums .before) in
+    let loop = looped sums .loop in
     omega (arith, power-fits (start .args .shape) (start .pre .0) (loop .s) (loop .power) (loop .inv .1) (omega arith))
 
 add-s : tie.Need-add-s Inv-loop μ-loop
@@ -189,11 +202,12 @@ loop-less c = omega arith
 loop-again : tie.Need-loop-again Inv-loop μ-loop
 unfolding lent
 loop-again c =
-    let start = c .before .before .before .before .before .before .before .before .before .before .before .before .before .before in
-    let loop = c .before .before .before .before .before .before .before .before .loop in
+    let sums = summed c in
+    let start = begun (looped sums .before) in
+    let loop = looped sums .loop in
     let k = start .args .shape .width in
     let last = c .before .before .add-check-digits .last .0 in
-    let t = turn (c .before .before .before .before) in (
+    let t = turn sums in (
       omega arith,
       power-next (start .args .shape) (start .pre .0) (loop .s) (loop .power) (loop .inv .1),
       omega arith,
@@ -207,14 +221,15 @@ same-length c = omega arith
 returns : tie.Need-returns Inv-loop μ-loop
 unfolding columns
 returns c =
-    let start = c .before .before .before .before .before .before .before in
+    let filled = c .before .before in
+    let start = begun filled in
     let loop = c .before .loop in
     let k = start .args .shape .width in
     let row = start .args .row .now in
-    let rule : take k (begun (c .before .before)) ≡ take k row
-    = take-put k (length row - k) row (c .before .before .before .before .fill .last .0) (omega arith) in
+    let rule : take k (first filled) ≡ take k row
+    = take-put k (length row - k) row (filled .before .before .fill .last .0) (omega arith) in
     let cs = ap (take k) (start .pre .2) ∙ array-rules (start .args .shape) (start .pre .0) in
-    let r : length (begun (c .before .before)) - k ≡ checks (start .args .shape) = omega arith in
+    let r : length (first filled) - k ≡ checks (start .args .shape) = omega arith in
     let all : loop .s ≡ start .args .shape .digits = omega arith in
     all-digits (start .args .shape) (start .pre .0) (take k row) (loop .row) (length-take-le k row (omega arith)) (loop .inv .3 ∙ rule)
     (loop .inv .4 ∙ (λ i. tabulate (r i) (cellAt (start .args .shape .radix) (cs i) (rule i) (all i))))

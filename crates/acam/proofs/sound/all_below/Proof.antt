@@ -35,6 +35,13 @@ Inv-loop bytes bound j₀ j = (j ≤ length bytes) × (from bound bytes j ≡ fr
 abbrev μ-loop : tie.MeasureT-loop
 μ-loop bytes bound j₀ j = length bytes - j
 
+-- the places of the call and of the loop, each from one that follows
+abbrev begun : tie.At-loop Inv-loop μ-loop → tie.Start Inv-loop μ-loop
+begun c = c .before .before
+
+abbrev looped : tie.After-wide Inv-loop μ-loop → tie.At-loop Inv-loop μ-loop
+looped c = c .before .before .before
+
 loop-holds : tie.Need-loop-holds Inv-loop μ-loop
 loop-holds c = (omega arith, refl)
 
@@ -46,8 +53,9 @@ wide-requires c κs = search needs
 
 returns : tie.Need-returns Inv-loop μ-loop
 returns c =
-    let args = c .before .before .before .before .before .before .args in
-    let loop = c .before .before .before .before .loop in
+    let turn = looped (c .before) in
+    let args = begun turn .args in
+    let loop = turn .loop in
     sym (fails (args .bound) (args .bytes .now) (loop .j) (omega arith) (omega (arith, c .before .wide .ensures))) ∙ loop .inv .1
 
 add-j : tie.Need-add-j Inv-loop μ-loop
@@ -58,14 +66,15 @@ loop-less c = omega arith
 
 loop-again : tie.Need-loop-again Inv-loop μ-loop
 loop-again c =
-    let args = c .before .before .before .before .before .before .args in
-    let loop = c .before .before .before .before .loop in
+    let turn = looped (c .before) in
+    let args = begun turn .args in
+    let loop = turn .loop in
     (omega arith, sym (passes (args .bound) (args .bytes .now) (loop .j) (omega arith) (omega (arith, c .before .wide .ensures))) ∙ loop .inv .1)
 
 returns-2 : tie.Need-returns-2 Inv-loop μ-loop
 returns-2 c =
-    let bytes = c .before .before .before .args .bytes .now in
-    let bound = c .before .before .before .args .bound in
+    let bytes = begun (c .before) .args .bytes .now in
+    let bound = begun (c .before) .args .bound in
     let all : c .before .loop .j ≡ length bytes = omega arith in
     sym (ap (every (λ v. ltb v bound)) (drop-length bytes)) ∙ ap (from bound bytes) (sym all) ∙ c .before .loop .inv .1
 

@@ -11,8 +11,7 @@ use lib.ListN.{length, getD, take}
 use borrow.Author.Count.{below-more}
 use borrow.Author.Needs.{needs}
 use borrow.Author.Tests.{not-true, not-false, eqb-true, eq-eqb, ltb-true}
-use Rattle.parity.specs.Lists.{every}
-use Rattle.parity.specs.Shape.{digit, levels, checks, columns}
+use Rattle.parity.specs.Shape.{digit, checks, columns}
 use Rattle.parity.specs.Matrix.{matrix, support}
 use Rattle.parity.specs.Codeword.{digitSum, isCodeword}
 use Rattle.parity.specs.Questions.{Taken}
@@ -23,9 +22,10 @@ use Rattle.parity.proofs.Taken.{limits}
 use Rattle.parity.proofs.Redundancy.{redundancyClaim}
 use Rattle.parity.proofs.MatrixFacts.{matrixClaim}
 use Rattle.parity.proofs.CodewordTest.{codeword-test, codeword-passes}
-use Rattle.matrix.specs.Matrices.{matrixArray}
+use Rattle.shape.proofs.Refusals.{levels-tested}
+use Rattle.acam.specs.Matrices.{matrixArray}
 use Rattle.acam.proofs.DigitLoop.{power-next, power-fits, sums-ready, sum-at}
-use Rattle.matrix.proofs.MatrixArray.{array-matrix}
+use Rattle.acam.proofs.MatrixArray.{array-matrix}
 use Rattle.acam.proofs.sound.is_sound.Statement.{statement}
 use Rattle.acam.proofs.sound.is_sound.Tie as tie
 
@@ -51,15 +51,22 @@ Inv-loop checks levels row columns radix digits power₀ s₀ power s =
 abbrev μ-loop : tie.MeasureT-loop
 μ-loop checks levels row columns radix digits power₀ s₀ power s = digits - s
 
+-- the places of the call and of the loop, each from one that follows
+abbrev begun : tie.At-loop Inv-loop μ-loop → tie.Start Inv-loop μ-loop
+begun c = c .before .before .before .before
+
+abbrev looped : tie.After-digit-sums Inv-loop μ-loop → tie.At-loop Inv-loop μ-loop
+looped c = c .before .before .before
+
 balance :
     (start : tie.Start Inv-loop μ-loop) (t ℓ : ℕ)
     → let args = start .args in
-    rowSum (args .shape .radix) (args .columns .now) (args .row .now) t ℓ % args .shape .radix
+    rowSum (args .shape .radix) (args .matrix .now) (args .row .now) t ℓ % args .shape .radix
     ≡ digitSum (args .shape .radix) t (support (args .shape) ℓ) (args .row .now) % args .shape .radix
 balance start t ℓ =
     let args = start .args in
     ap (λ x. x % args .shape .radix)
-    (row-sum (args .shape) (start .pre .0 .0) (args .columns .now) (args .row .now) (start .pre .1 .0) (start .pre .1 .1) t ℓ)
+    (row-sum (args .shape) (start .pre .0 .0) (args .matrix .now) (args .row .now) (start .pre .1 .0) (start .pre .1 .1) t ℓ)
 
 all-below-requires : tie.Need-all-below-requires Inv-loop μ-loop
 all-below-requires c κs = search needs
@@ -68,8 +75,7 @@ returns : tie.Need-returns Inv-loop μ-loop
 unfolding isCodeword
 returns c =
     let start = c .before .before .before in
-    let fails : every (λ v. ltb v (levels (start .args .shape))) (start .args .row .now) ≡ false
-    = ap (λ q. every (λ v. ltb v q) (start .args .row .now)) (sym (start .pre .0 .2)) ∙ sym (c .before .all-below .ensures) ∙ not-true _ (c .if1 .taken) in
+    let fails = levels-tested (start .args .shape) (start .pre .0 .2) (start .args .row .now) (c .before .all-below .ensures) ∙ not-true _ (c .if1 .taken) in
     simp (fails, and-false)
 
 loop-holds : tie.Need-loop-holds Inv-loop μ-loop
@@ -77,36 +83,37 @@ loop-holds c = (omega arith, sym (pow-zero (c .before .before .before .args .sha
 
 digit-sums-requires : tie.Need-digit-sums-requires Inv-loop μ-loop
 digit-sums-requires c κs =
-    let start = c .before .before .before .before .before .before in
+    let start = begun (c .before .before) in
     let loop = c .before .before .loop in
-    sums-ready (start .args .shape) (start .pre .0 .0) (loop .s) (loop .power) (loop .inv .1) (omega arith) (start .args .columns .now)
+    sums-ready (start .args .shape) (start .pre .0 .0) (loop .s) (loop .power) (loop .inv .1) (omega arith) (start .args .matrix .now)
     (start .args .row .now) (start .pre .1 .1) (omega arith)
 
 all-balanced-requires : tie.Need-all-balanced-requires Inv-loop μ-loop
 all-balanced-requires c κs =
-    let start = c .before .before .before .before .before .before .before in
+    let start = begun (looped c) in
     omega (arith, limits (start .args .shape) (start .pre .0 .0), redundancyClaim (start .args .shape) (start .pre .0 .0))
 
 -- the sums that are tested are those of digit s
 tested :
     (c : tie.After-digit-sums Inv-loop μ-loop)
-    → let args = c .before .before .before .before .before .before .before .args in
+    → let args = begun (looped c) .args in
     (ℓ : ℕ) → ℓ < args .checks
     → getD (c .digit-sums .result) ℓ 0 % args .shape .radix
-    ≡ rowSum (args .shape .radix) (args .columns .now) (args .row .now) (c .before .before .before .loop .s) ℓ % args .shape .radix
+    ≡ rowSum (args .shape .radix) (args .matrix .now) (args .row .now) (looped c .loop .s) ℓ % args .shape .radix
 tested c ℓ h =
-    let start = c .before .before .before .before .before .before .before in
+    let start = begun (looped c) in
     let args = start .args in
-    let loop = c .before .before .before .loop in
+    let loop = looped c .loop in
     ap (λ x. x % args .shape .radix)
-    (sum-at (args .shape .radix) (loop .s) (loop .power) (take (length (args .row .now)) (args .columns .now)) (args .row .now) (c .digit-sums .result)
+    (sum-at (args .shape .radix) (loop .s) (loop .power) (take (length (args .row .now)) (args .matrix .now)) (args .row .now) (c .digit-sums .result)
     (loop .inv .1) (c .digit-sums .ensures) ℓ (omega (arith, redundancyClaim (args .shape) (start .pre .0 .0) .high)))
 
 returns-2 : tie.Need-returns-2 Inv-loop μ-loop
 returns-2 c =
-    let start = c .before .before .before .before .before .before .before .before .before in
+    let turn = looped (c .before .before) in
+    let start = begun turn in
     let args = start .args in
-    let loop = c .before .before .before .before .before .loop in
+    let loop = turn .loop in
     sym (not-eq-not {b = false} .0 (λ sound.
     let word = codeword-test (args .shape) (args .row .now) sound in
     false≢true
@@ -119,8 +126,9 @@ returns-2 c =
 
 mul-power : tie.Need-mul-power Inv-loop μ-loop
 mul-power c =
-    let start = c .before .before .before .before .before .before .before .before .before in
-    let loop = c .before .before .before .before .before .loop in
+    let turn = looped (c .before .before) in
+    let start = begun turn in
+    let loop = turn .loop in
     omega (arith, power-fits (start .args .shape) (start .pre .0 .0) (loop .s) (loop .power) (loop .inv .1) (omega arith))
 
 add-s : tie.Need-add-s Inv-loop μ-loop
@@ -131,20 +139,21 @@ loop-less c = omega arith
 
 loop-again : tie.Need-loop-again Inv-loop μ-loop
 loop-again c =
-    let start = c .before .before .before .before .before .before .before .before .before in
+    let turn = looped (c .before .before) in
+    let start = begun turn in
     let args = start .args in
-    let loop = c .before .before .before .before .before .loop in
+    let loop = turn .loop in
     let passes = sym (c .before .all-balanced .ensures) ∙ not-false _ (c .if2 .left) in (
       omega arith,
       power-next (args .shape) (start .pre .0 .0) (loop .s) (loop .power) (loop .inv .1),
-      below-more (Balanced (args .shape .radix) (args .checks) (args .columns .now) (args .row .now)) (loop .s) (loop .inv .2)
+      below-more (Balanced (args .shape .radix) (args .checks) (args .matrix .now) (args .row .now)) (loop .s) (loop .inv .2)
           (λ ℓ h. sym (tested (c .before .before) ℓ h)
           ∙ eqb-true _ 0 (everyTo-at (args .checks) (λ l. eqb (getD (c .before .before .digit-sums .result) l 0 % args .shape .radix) 0) passes ℓ h)),
     )
 
 returns-3 : tie.Need-returns-3 Inv-loop μ-loop
 returns-3 c =
-    let start = c .before .before .before .before .before in
+    let start = begun (c .before) in
     let args = start .args in
     let loop = c .before .loop in
     let low = sym (c .before .before .before .all-below .ensures) ∙ not-false _ (c .before .before .if1 .left) in

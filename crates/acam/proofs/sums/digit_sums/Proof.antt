@@ -53,6 +53,13 @@ Inv-loop cells columns radix power by-power by-radix base sums₀ j₀ sums j = 
 abbrev μ-loop : tie.MeasureT-loop
 μ-loop cells columns radix power by-power by-radix base sums₀ j₀ sums j = length cells - j
 
+-- the places of the call and of the loop, each from one that follows
+abbrev begun : tie.At-loop Inv-loop μ-loop → tie.Start Inv-loop μ-loop
+begun c = c .before .before .before
+
+abbrev looped : tie.After-quotient Inv-loop μ-loop → tie.At-loop Inv-loop μ-loop
+looped c = c .before .before .before
+
 div-by-power : tie.Need-div-by-power Inv-loop μ-loop
 div-by-power c = omega arith
 
@@ -85,19 +92,20 @@ cast-quotient c = omega (arith, c .shared-slice-known3 .given (c .before .before
 
 quotient-requires : tie.Need-quotient-requires Inv-loop μ-loop
 quotient-requires c κs =
-    omega (arith, c .shared-slice-known3 .given (c .before .before .loop .j), div-le-self 65536 (c .before .before .before .before .before .args .power))
+    let turn = c .before .before in
+    omega (arith, c .shared-slice-known3 .given (turn .loop .j), div-le-self 65536 (begun turn .args .power))
 
 -- what the first product makes of a cell
 high-is :
     (c : tie.After-quotient Inv-loop μ-loop)
-    → let args = c .before .before .before .before .before .before .args in
-    c .quotient .result ≡ getD (args .cells .now) (c .before .before .before .loop .j) 0 / args .power
-high-is c = c .quotient .ensures (c .before .before .before .before .before .before .args .power) (omega arith) (omega arith) refl
+    → let args = begun (looped c) .args in
+    c .quotient .result ≡ getD (args .cells .now) (looped c .loop .j) 0 / args .power
+high-is c = c .quotient .ensures (begun (looped c) .args .power) (omega arith) (omega arith) refl
 
 quotient-requires-2 : tie.Need-quotient-requires-2 Inv-loop μ-loop
 quotient-requires-2 c κs =
-    let args = c .before .before .before .before .before .before .args in
-    let j = c .before .before .before .loop .j in
+    let args = begun (looped c) .args in
+    let j = looped c .loop .j in
     omega (
       arith,
       high-is c,
@@ -108,22 +116,20 @@ quotient-requires-2 c κs =
 
 -- and the second
 low-is :
-    (c : tie.After-quotient2 Inv-loop μ-loop)
-    → c .quotient2 .result ≡ c .before .quotient .result / c .before .before .before .before .before .before .before .args .radix
-low-is c = c .quotient2 .ensures (c .before .before .before .before .before .before .before .args .radix) (omega arith) (omega arith) refl
+    (c : tie.After-quotient2 Inv-loop μ-loop) → c .quotient2 .result ≡ c .before .quotient .result / begun (looped (c .before)) .args .radix
+low-is c = c .quotient2 .ensures (begun (looped (c .before)) .args .radix) (omega arith) (omega arith) refl
 
 taken-off :
-    (c : tie.After-quotient2 Inv-loop μ-loop)
-    → c .quotient2 .result * c .before .before .before .before .before .before .before .args .radix ≤ c .before .quotient .result
-taken-off c = rw (low-is c) (div-mul-le-self (c .before .quotient .result) (c .before .before .before .before .before .before .before .args .radix))
+    (c : tie.After-quotient2 Inv-loop μ-loop) → c .quotient2 .result * begun (looped (c .before)) .args .radix ≤ c .before .quotient .result
+taken-off c = rw (low-is c) (div-mul-le-self (c .before .quotient .result) (begun (looped (c .before)) .args .radix))
 
 digit-is :
     (c : tie.After-quotient2 Inv-loop μ-loop)
-    → let args = c .before .before .before .before .before .before .before .args in
+    → let args = begun (looped (c .before)) .args in
     c .before .quotient .result - c .quotient2 .result * args .radix
-    ≡ digitOf (args .radix) (args .power) (getD (args .cells .now) (c .before .before .before .before .loop .j) 0)
+    ≡ digitOf (args .radix) (args .power) (getD (args .cells .now) (looped (c .before) .loop .j) 0)
 digit-is c =
-    let radix = c .before .before .before .before .before .before .before .args .radix in
+    let radix = begun (looped (c .before)) .args .radix in
     let high = c .before .quotient .result in
     ap (λ x. high - x * radix) (low-is c) ∙ sym (mod-eq-sub-div-mul high radix) ∙ ap (λ x. x % radix) (high-is (c .before))
 
@@ -135,16 +141,18 @@ sub-digit c = taken-off c
 
 cast-digit : tie.Need-cast-digit Inv-loop μ-loop
 cast-digit c =
-    let args = c .before .before .before .before .before .before .before .args in
-    omega (arith, digit-is c, digit-small (args .radix) (args .power) (omega arith) (omega arith) (getD (args .cells .now) (c .before .before .before .before .loop .j) 0))
+    let args = begun (looped (c .before)) .args in
+    let cell = getD (args .cells .now) (looped (c .before) .loop .j) 0 in
+    omega (arith, digit-is c, digit-small (args .radix) (args .power) (omega arith) (omega arith) cell)
 
 shared-slice-read-add-digit : tie.Need-shared-slice-read-add-digit Inv-loop μ-loop
 shared-slice-read-add-digit c = omega arith
 
 add-digit-requires : tie.Need-add-digit-requires Inv-loop μ-loop
 add-digit-requires c κs =
-    let args = c .before .before .before .before .before .before .before .before .before .args in
-    let loop = c .before .before .before .before .before .before .loop in
+    let turn = looped (c .before .before .before) in
+    let args = begun turn .args in
+    let loop = turn .loop in
     let small = digit-small (args .radix) (args .power) (omega arith) (omega arith) in (
       ap length (loop .inv .1),
       λ l h. omega (
@@ -152,7 +160,7 @@ add-digit-requires c κs =
         digit-is (c .before .before),
         small (getD (args .cells .now) (loop .j) 0),
         ap (λ xs. getD xs l 0) (loop .inv .1),
-        sums-high (digitOf (args .radix) (args .power)) (args .columns .now) (args .cells .now) (loop .j) small l h,
+        sums-high (digitOf (args .radix) (args .power)) (args .matrix .now) (args .cells .now) (loop .j) small l h,
       ),
     )
 
@@ -164,36 +172,37 @@ loop-less c = omega arith
 
 loop-again : tie.Need-loop-again Inv-loop μ-loop
 loop-again c =
-    let args = c .before .before .before .before .before .before .before .before .before .before .args in
-    let loop = c .before .before .before .before .before .before .before .loop in
+    let turn = looped (c .before .before .before .before) in
+    let args = begun turn .args in
+    let loop = turn .loop in
     let f : ℕ → ℕ = digitOf (args .radix) (args .power) in
-    let column = getD (args .columns .now) (loop .j) 0 in (
+    let column = getD (args .matrix .now) (loop .j) 0 in (
       omega arith,
       c .add-digit .ensures
           ∙ ap₂ (λ xs d. tabulate 8 (grown xs column d)) (loop .inv .1) (digit-is (c .before .before .before))
-          ∙ sums-next f (args .columns .now) (args .cells .now) (loop .j) (omega arith) (omega arith),
+          ∙ sums-next f (args .matrix .now) (args .cells .now) (loop .j) (omega arith) (omega arith),
     )
 
 widened-requires : tie.Need-widened-requires Inv-loop μ-loop
 widened-requires c κs =
-    let args = c .before .before .before .before .args in
+    let args = begun (c .before) .args in
     let loop = c .before .loop in
     let small = digit-small (args .radix) (args .power) (omega arith) (omega arith) in
     λ l h. omega (
       arith,
       ap (λ xs. getD xs l 0) (loop .inv .1),
-      sums-high (digitOf (args .radix) (args .power)) (args .columns .now) (args .cells .now) (loop .j) small l h,
+      sums-high (digitOf (args .radix) (args .power)) (args .matrix .now) (args .cells .now) (loop .j) small l h,
     )
 
 returns : tie.Need-returns Inv-loop μ-loop
 returns c =
-    let args = c .before .before .before .before .before .args in
+    let args = begun (c .before .before) .args in
     let cells = args .cells .now in
     let all : c .before .before .loop .j ≡ length cells = omega arith in
     c .widened .ensures
     ∙ ap (λ xs. tabulate 8 (λ l. getD xs l 0)) (c .before .before .loop .inv .1)
-    ∙ ap (sumsOf (digitOf (args .radix) (args .power)) (args .columns .now) cells) all
-    ∙ ap (λ vs. tabulate 8 (λ l. checkSum (digitOf (args .radix) (args .power)) l (take (length cells) (args .columns .now)) vs)) (take-length cells)
+    ∙ ap (sumsOf (digitOf (args .radix) (args .power)) (args .matrix .now) cells) all
+    ∙ ap (λ vs. tabulate 8 (λ l. checkSum (digitOf (args .radix) (args .power)) l (take (length cells) (args .matrix .now)) vs)) (take-length cells)
 
 pub digit-sums-spec : {M : Type 1} → statement M
 digit-sums-spec =

@@ -1,56 +1,78 @@
--- `array::cells::sound` meets its contract: at each return the tests on the way say which question is the first no. Assumes nothing.
-use mathlib.Core.Path.{_≡_, refl, sym, _∙_, ap}
+-- `array::cells::sound` meets its contract: `check_row` asks, and the part that is lent is a row of the array. Assumes nothing.
+use mathlib.Core.Path.{_≡_, refl, sym, ap, _∙_}
 use mathlib.Core.Bool.{Bool, true, false}
 use mathlib.Core.List.{List, [], _∷_}
-use Prim.Native.Nat.{ℕ, _+_, _-_, _*_, _<_}
+use Prim.Native.Nat.{ℕ, _+_, _-_, _*_, _≤_}
 use native.Mathlib.Omega.{arith}
 use lib.ListN.{length}
 use borrow.Author.Needs.{needs}
-use borrow.Author.Tests.{lt-ltb, le-ltb}
+use borrow.Author.Tests.{eq-eqb}
 use borrow.Rule.Slice.PartMut.{midOf}
+use Rattle.parity.specs.Shape.{columns}
 use Rattle.parity.specs.Codeword.{isCodeword}
 use Rattle.parity.specs.Questions.{Question, firstNo, placeQuestion}
-use Rattle.parity.specs.declared.Shape.{Shape}
-use Rattle.limits.specs.declared.answer.Verdict.{Verdict}
-use Rattle.limits.specs.declared.answer.Verdict.the-variants as verdicts
-use Rattle.limits.specs.declared.shape.Sizes.{Sizes}
-use Rattle.limits.specs.Answers.{verdict}
-use Rattle.array.specs.Arrays.{rowAt}
-use Rattle.array.specs.Answers.{soundAnswer}
-use Rattle.array.proofs.RowPlaces.{row-part, part-sized}
-use Rattle.array.proofs.Asked.{CellsPassed, cells-passed, cells-makes, cells-refused-makes, lent-high, row-within}
+use Rattle.shape.specs.Answers.{accepted, refused, answering}
+use Rattle.shape.proofs.Refusals.{told, Passes, passes, fails}
+use Rattle.shape.proofs.Calling.{if-no}
+use Rattle.array_memory.specs.Geometry.{rowAt}
+use Rattle.array_memory.specs.Questions.{cellsQuestions, rowArguments}
+use Rattle.array.specs.Calls.{soundCall}
+use Rattle.array_memory.proofs.RowPlaces.{row-part, part-sized}
+use Rattle.array_memory.proofs.Asked.{RowTaken, row-taken, cells-bound, row-within}
 use Rattle.array.proofs.cells.sound.Statement.{statement}
 use Rattle.array.proofs.cells.sound.Tie as tie
 
--- the question on the row
-abbrev asked : Shape → ℕ → List Question
-asked s row = placeQuestion row (s .rows) ∷ []
+-- the questions of the call, and those of `check_row`: no bytes come with the call, and k for their number passes
+abbrev ownQuestions : tie.Start → List Question
+ownQuestions c = cellsQuestions (c .args .shape) (length (c .args .cells .now)) (placeQuestion (c .args .row) (c .args .shape .rows) ∷ [])
 
--- what is answered to the first no
-abbrev made : Shape → List ℕ → ℕ → ℕ → Verdict
-made s cells row n = verdict n (isCodeword s (rowAt s cells row))
+abbrev questions : tie.Start → List Question
+questions c = cellsQuestions (c .args .shape) (length (c .args .cells .now)) (rowArguments (c .args .shape) (c .args .shape .width) (c .args .row))
 
-module _ (s : Shape) (cells : List ℕ) (row : ℕ) {sizes : Sizes} (p : CellsPassed s (length cells) sizes) where
-  answered : (n : ℕ) → firstNo (asked s row) ≡ n → made s cells row n ≡ soundAnswer s cells row
-  unfolding soundAnswer
-  answered = cells-makes (made s cells row) p (asked s row)
+no-part : (c : tie.Start) → firstNo (questions c) ≡ firstNo (ownQuestions c)
+no-part c = rw (eq-eqb (c .args .shape .width) (c .args .shape .width) refl) refl
 
-  -- the part that is lent is a row of the array, and is answered with the test's result
+-- the places of the call and of the sizes, each from one that follows
+abbrev begun : tie.After-sizes → tie.Start
+begun c = c .before .before .before .before
+
+abbrev sized : tie.After-is-sound → tie.After-sizes
+sized c = c .before .before .before .before .before
+
+module _ (c : tie.After-sizes) where
+  asked : Passes (questions (begun c)) (begun c .args .shape) (c .sizes .given .0 .0)
+  asked = passes _ _ _ (told (c .before .before .check-row .ensures) (c .sizes .given .1))
+
+  given : let args = begun c .args in RowTaken (args .shape) (length (args .cells .now)) (args .shape .width) (args .row)
+  given = row-taken _ _ _ _ (asked .none)
+
+  wide : c .sizes .given .0 .0 .columns ≡ columns (begun c .args .shape)
+  wide = ap (λ z. z .columns) (asked .sizes)
+
+  within : begun c .args .row * c .sizes .given .0 .0 .columns + c .sizes .given .0 .0 .columns ≤ length (begun c .args .cells .now)
+  within = row-within (given .cells) (c .sizes .given .0 .0) (asked .sizes) (begun c .args .row) (given .place)
+
+  -- the row, and the part of the cells that is lent for it
+  abbrev row : List ℕ
+  row = rowAt (columns (begun c .args .shape)) (begun c .args .cells .now) (begun c .args .row)
+
+  abbrev part : List ℕ
+  part =
+      let n = c .sizes .given .0 .0 .columns in
+      let start = begun c .args .row * n in
+      midOf start (start + n - start) (begun c .args .cells .now)
+
+  -- what is said of a row that the test has this result for
   tested :
-      (result : Bool) → row < s .rows
-      → result ≡ isCodeword s (midOf (row * sizes .columns) (row * sizes .columns + sizes .columns - row * sizes .columns) cells)
-      → verdict 0 result ≡ soundAnswer s cells row
-  tested result h e =
-      ap (verdict 0) (e ∙ ap (isCodeword s) (row-part s cells row (sizes .columns) (p .shape .columns))) ∙ answered 0 (simp (lt-ltb row (s .rows) h))
+      (result : Bool) → result ≡ isCodeword (begun c .args .shape) part
+      → answering false (firstNo (ownQuestions (begun c))) (isCodeword (begun c .args .shape) row) ≡ accepted result
+  tested result e =
+      let s = begun c .args .shape in
+      ap (λ n. answering false n (isCodeword s row)) (sym (no-part (begun c)) ∙ asked .none)
+      ∙ ap accepted (sym (e ∙ ap (isCodeword s) (row-part (begun c .args .cells .now) (begun c .args .row) (columns s) _ wide)))
 
-cells-taken :
-    (c : tie.After-sizes)
-    → let args = c .before .before .before .before .args in
-    CellsPassed (args .shape) (length (args .cells .now)) (c .sizes .given .0 .0)
-cells-taken c = cells-passed _ _ _ (sym (c .before .before .check-cells .ensures) ∙ c .sizes .given .1)
-
-check-cells-requires : tie.Need-check-cells-requires
-check-cells-requires c κs = search needs
+check-row-requires : tie.Need-check-row-requires
+check-row-requires c κs = search needs
 
 enum-known-number : tie.Need-enum-known-number
 enum-known-number c = search needs
@@ -58,19 +80,14 @@ enum-known-number c = search needs
 enum-known-sizes : tie.Need-enum-known-sizes
 enum-known-sizes c = search needs
 
-returns : tie.Need-returns
-returns c =
-    let args = c .before .before .before .before .before .before .args in
-    answered (args .shape) (args .cells .now) (args .row) (cells-taken (c .before .before)) 7 (simp (le-ltb (args .row) (args .shape .rows) (omega arith)))
-
 mul-start : tie.Need-mul-start
-mul-start c = let p = cells-taken (c .before .before) in omega (arith, row-within p _ (c .if1 .left), lent-high p)
+mul-start c = omega (arith, within (c .before), cells-bound (given (c .before) .cells))
 
 add-end : tie.Need-add-end
-add-end c = let p = cells-taken (c .before .before) in omega (arith, row-within p _ (c .if1 .left), lent-high p)
+add-end c = omega (arith, within (c .before), cells-bound (given (c .before) .cells))
 
-columns-of-requires : tie.Need-columns-of-requires
-columns-of-requires c κs = let p = cells-taken (c .before .before) in (p .shape .taken, p .shape .checks)
+matrix-of-requires : tie.Need-matrix-of-requires
+matrix-of-requires c κs = let sizes = c .before in (given sizes .cells .taken, ap (λ z. z .checks) (asked sizes .sizes))
 
 sub-is-sound : tie.Need-sub-is-sound
 sub-is-sound c = search needs
@@ -79,50 +96,50 @@ part-is-sound-start : tie.Need-part-is-sound-start
 part-is-sound-start c = search needs
 
 part-is-sound-end : tie.Need-part-is-sound-end
-part-is-sound-end c = row-within (cells-taken (c .before .before .before)) _ (c .before .if1 .left)
+part-is-sound-end c = within (c .before .before)
 
 is-sound-requires : tie.Need-is-sound-requires
 is-sound-requires c κs =
-    let args = c .before .before .before .before .before .before .before .before .before .args in
-    let p = cells-taken (c .before .before .before .before .before) in
-    let sized = part-sized (args .shape) (args .cells .now) (args .row) _ (p .shape .columns) (p .counted) (c .before .before .before .if1 .left) in
-    ((p .shape .taken, p .shape .checks, p .shape .levels), (sized, c .before .before .columns-of .ensures))
+    let sizes = c .before .before .before .before in
+    let args = begun sizes .args in
+    let p = given sizes in
+    let z = asked sizes .sizes in
+    let sized = part-sized (args .shape) (args .cells .now) (args .row) (p .cells .counted) (p .place) _ (wide sizes) in
+    ((p .cells .taken, ap (λ z. z .checks) z, ap (λ z. z .levels) z), (sized, c .before .before .matrix-of .ensures))
+
+returns : tie.Need-returns
+unfolding soundCall
+returns c = λ mem. tested (sized (c .before)) true (sym (c .if1 .taken) ∙ c .before .is-sound .ensures)
 
 returns-2 : tie.Need-returns-2
+unfolding soundCall
 returns-2 c =
-    let args = c .before .before .before .before .before .before .before .before .before .before .before .args in
-    tested (args .shape) (args .cells .now) (args .row) (cells-taken (c .before .before .before .before .before .before .before)) true
-    (c .before .before .before .before .before .if1 .left) (sym (c .if2 .taken) ∙ c .before .is-sound .ensures)
+    let check = c .before .before .before in
+    let start = check .before .before in
+    let holds = isCodeword (start .args .shape) (rowAt (columns (start .args .shape)) (start .args .cells .now) (start .args .row)) in
+    let number = c .before .number .given in
+    let found = fails (questions start) (start .args .shape) (number .0 .0) (told (check .check-row .ensures) (number .1)) in
+    λ mem. ap (λ n. answering false n holds) (sym (no-part start) ∙ found .0)
+    ∙ if-no (number .0 .0) (found .1) (accepted holds) (refused false (number .0 .0))
 
 returns-3 : tie.Need-returns-3
-unfolding soundAnswer
-returns-3 c =
-    let args = c .before .before .before .before .before .args in
-    let number = c .before .number .given in
-    cells-refused-makes (made (args .shape) (args .cells .now) (args .row)) verdicts.Refused (λ m. refl) (args .shape) _ (number .0 .0)
-    (sym (c .before .before .before .check-cells .ensures) ∙ number .1) (asked (args .shape) (args .row))
-
-returns-4 : tie.Need-returns-4
-returns-4 c =
-    let args = c .before .before .before .before .before .before .before .before .before .before .before .args in
-    tested (args .shape) (args .cells .now) (args .row) (cells-taken (c .before .before .before .before .before .before .before)) false
-    (c .before .before .before .before .before .if1 .left) (sym (c .if2 .left) ∙ c .before .is-sound .ensures)
+unfolding soundCall
+returns-3 c = λ mem. tested (sized (c .before)) false (sym (c .if1 .left) ∙ c .before .is-sound .ensures)
 
 pub sound-spec : {M : Type 1} → statement M
 sound-spec =
     tie.close
     (tie.spec
-    check-cells-requires
+    check-row-requires
     enum-known-number
     enum-known-sizes
-    returns
     mul-start
     add-end
-    columns-of-requires
+    matrix-of-requires
     sub-is-sound
     part-is-sound-start
     part-is-sound-end
     is-sound-requires
+    returns
     returns-2
-    returns-3
-    returns-4)
+    returns-3)

@@ -12,6 +12,13 @@ use Rattle.parity.proofs.Filled.{filledFrom-whole}
 use Rattle.array.proofs.change.program_row.Statement.{statement}
 use Rattle.array.proofs.change.program_row.Tie as tie
 
+-- the places of the call and of the copy, each from one that follows
+abbrev begun : tie.After-copy → tie.Start
+begun c = c .before .before .before .before
+
+abbrev copied : tie.After-slice-known3 → tie.After-copy
+copied c = c .before .before .before .before .before .before .before .before
+
 -- the rule cells are within the row
 rules-within : (c : tie.Start) → c .args .shape .width ≤ length (c .args .row .now)
 unfolding columns
@@ -30,8 +37,8 @@ slice-aggregate-copy c = sym (front (c .before .before .before))
 copy-requires : tie.Need-copy-requires
 copy-requires c κs = search needs
 
-columns-of-requires : tie.Need-columns-of-requires
-columns-of-requires c κs = search needs
+matrix-of-requires : tie.Need-matrix-of-requires
+matrix-of-requires c κs = search needs
 
 write-checks-requires : tie.Need-write-checks-requires
 write-checks-requires c κs = search needs
@@ -41,11 +48,11 @@ same-length c = search needs
 
 returns : tie.Need-returns
 returns c =
-    let start = c .before .before .before .before .before .before .before .before .before .before .before .before in
+    let start = begun (copied c) in
     let s = start .args .shape in
     let row = start .args .row .now in
     let given = start .args .given .now in
-    let copy = c .before .before .before .before .before .before .before .before .copy in
+    let copy = copied c .copy in
     let whole = copy .ensures ∙ filledFrom-whole given (take (s .width) row) (start .pre .3 ∙ sym (front start)) in
     c .before .before .write-checks .ensures
     ∙ ap (encode s)
@@ -58,7 +65,7 @@ program-row-spec =
     slice-relend-prefix-copy
     slice-aggregate-copy
     copy-requires
-    columns-of-requires
+    matrix-of-requires
     write-checks-requires
     same-length
     returns)

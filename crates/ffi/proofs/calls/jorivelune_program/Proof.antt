@@ -1,12 +1,21 @@
--- `ffi::calls::jorivelune_program` meets its contract: the method on the record tells what `store` leaves. Assumes nothing.
-use mathlib.Core.List.{[]}
+-- `ffi::calls::jorivelune_program` meets its contract: the record is read, the method on it returns, and `store` leaves what the return says.
+-- Assumes nothing.
 use borrow.Author.Needs.{needs}
-use Rattle.scrub.specs.Calls.{programCall}
-use Rattle.scrub.specs.Methods.{stateOf}
-use Rattle.words.specs.Words.{cycleOf}
-use Rattle.words.proofs.Stored.{stored}
+use Rattle.array_memory.specs.Memory.{withCells}
+use Rattle.cycle.specs.Calls.{programCall}
+use Rattle.ffi.proofs.Numbers.{calling-told, stores}
 use Rattle.ffi.proofs.calls.jorivelune_program.Statement.{statement}
 use Rattle.ffi.proofs.calls.jorivelune_program.Tie as tie
+
+-- from the end: the method has returned, the record was read, and the start
+abbrev made : tie.After-store → tie.After-program
+made c = c .before .before .before
+
+abbrev read : tie.After-store → tie.After-cycle-of
+read c = made c .before .before .before
+
+abbrev start : tie.After-store → tie.Start
+start c = read c .before .before .before .before
 
 cycle-of-requires : tie.Need-cycle-of-requires
 cycle-of-requires c κs = search needs
@@ -21,15 +30,11 @@ same-length : tie.Need-same-length
 same-length c = search needs
 
 returns : tie.Need-returns
+unfolding programCall
 returns c =
-    let made = c .before .before .before in
-    let read = made .before .before .before in
-    let args = read .before .before .before .before .args in
-    let done = rw (read .cycle-of .ensures) at (made .program .ensures) in
-    let call = programCall (args .shape) (stateOf (args .cells .now) [] [] (cycleOf (args .words .now))) (args .row) (args .given .now) in
-    let kept = stored call (args .words .now) (done .0) (c .store .ensures) in
-    (kept .0, (kept .1, done .1))
+    let args = start c .args in
+    λ mem. stores (λ st. programCall (args .shape) st (args .row) (args .given .now)) (withCells (args .cells .now) mem) (args .words .now)
+    (made c .program .result) (calling-told _ _ _ _ _ _) (read c .cycle-of .ensures) (made c .program .ensures mem) (c .store .ensures)
 
 pub jorivelune-program-spec : {M : Type 1} → statement M
-jorivelune-program-spec =
-    tie.close (tie.spec cycle-of-requires program-requires store-requires same-length returns)
+jorivelune-program-spec = tie.close (tie.spec cycle-of-requires program-requires store-requires same-length returns)

@@ -1,11 +1,21 @@
--- `ffi::calls::jorivelune_run` meets its contract: the method on the record tells what `store` leaves. Assumes nothing.
+-- `ffi::calls::jorivelune_run` meets its contract: the record is read, the method on it returns, and `store` leaves what the return says.
+-- Assumes nothing.
 use borrow.Author.Needs.{needs}
-use Rattle.scrub.specs.Methods.{stateOf}
-use Rattle.whole.specs.Whole.{cycleCall}
-use Rattle.words.specs.Words.{cycleOf}
-use Rattle.words.proofs.Stored.{stored}
+use Rattle.array_memory.specs.Memory.{withAll}
+use Rattle.cycle_run.specs.Cycles.{cycleCall}
+use Rattle.ffi.proofs.Numbers.{calling-told, stores}
 use Rattle.ffi.proofs.calls.jorivelune_run.Statement.{statement}
 use Rattle.ffi.proofs.calls.jorivelune_run.Tie as tie
+
+-- from the end: the method has returned, the record was read, and the start
+abbrev made : tie.After-store → tie.After-run-cycle
+made c = c .before .before .before .before .before .before .before
+
+abbrev read : tie.After-store → tie.After-cycle-of
+read c = made c .before .before .before .before .before
+
+abbrev start : tie.After-store → tie.Start
+start c = read c .before .before .before .before .before .before
 
 cycle-of-requires : tie.Need-cycle-of-requires
 cycle-of-requires c κs = search needs
@@ -26,23 +36,12 @@ same-length-3 : tie.Need-same-length-3
 same-length-3 c = search needs
 
 returns : tie.Need-returns
+unfolding cycleCall
 returns c =
-    let made = c .before .before .before .before .before .before .before in
-    let read = made .before .before .before .before .before in
-    let args = read .before .before .before .before .before .before .args in
-    let done = rw (read .cycle-of .ensures) at (made .run-cycle .ensures) in
-    let call = cycleCall (args .shape) (stateOf (args .cells .now) (args .counters .now) (args .flags .now) (cycleOf (args .words .now))) (args .matches .now) in
-    let kept = stored call (args .words .now) (done .0) (c .store .ensures) in
-    (kept .0, (kept .1, done .1))
+    let args = start c .args in
+    λ mem. stores (λ st. cycleCall (args .shape) st (args .matches .now))
+    (withAll (args .cells .now) (args .counters .now) (args .flags .now) mem) (args .words .now) (made c .run-cycle .result)
+    (calling-told _ _ _ _ _ _) (read c .cycle-of .ensures) (made c .run-cycle .ensures mem) (c .store .ensures)
 
 pub jorivelune-run-spec : {M : Type 1} → statement M
-jorivelune-run-spec =
-    tie.close
-    (tie.spec
-    cycle-of-requires
-    run-cycle-requires
-    store-requires
-    same-length
-    same-length-2
-    same-length-3
-    returns)
+jorivelune-run-spec = tie.close (tie.spec cycle-of-requires run-cycle-requires store-requires same-length same-length-2 same-length-3 returns)

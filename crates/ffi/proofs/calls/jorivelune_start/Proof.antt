@@ -1,12 +1,21 @@
--- `ffi::calls::jorivelune_start` meets its contract: the method on the record tells what `store` leaves. Assumes nothing.
-use mathlib.Core.List.{[]}
+-- `ffi::calls::jorivelune_start` meets its contract: the record is read, the method on it returns, and `store` leaves what the return says.
+-- Assumes nothing.
 use borrow.Author.Needs.{needs}
-use Rattle.scrub.specs.Calls.{startCall}
-use Rattle.scrub.specs.Methods.{stateOf}
-use Rattle.words.specs.Words.{cycleOf}
-use Rattle.words.proofs.Stored.{stored}
+use Rattle.array_memory.specs.Memory.{withRows}
+use Rattle.cycle.specs.Calls.{startCall}
+use Rattle.ffi.proofs.Numbers.{calling-told, stores}
 use Rattle.ffi.proofs.calls.jorivelune_start.Statement.{statement}
 use Rattle.ffi.proofs.calls.jorivelune_start.Tie as tie
+
+-- from the end: the method has returned, the record was read, and the start
+abbrev made : tie.After-store → tie.After-start
+made c = c .before .before .before .before .before
+
+abbrev read : tie.After-store → tie.After-cycle-of
+read c = made c .before .before .before .before
+
+abbrev start : tie.After-store → tie.Start
+start c = read c .before .before .before .before
 
 cycle-of-requires : tie.Need-cycle-of-requires
 cycle-of-requires c κs = search needs
@@ -24,16 +33,11 @@ same-length-2 : tie.Need-same-length-2
 same-length-2 c = search needs
 
 returns : tie.Need-returns
+unfolding startCall
 returns c =
-    let made = c .before .before .before .before .before in
-    let read = made .before .before .before .before in
-    let args = read .before .before .before .before .args in
-    let done = rw (read .cycle-of .ensures) at (made .start .ensures) in
-    let call = startCall (args .shape) (stateOf [] (args .counters .now) (args .flags .now) (cycleOf (args .words .now))) in
-    let kept = stored call (args .words .now) (done .0) (c .store .ensures) in
-    (kept .0, (kept .1, done .1))
+    let args = start c .args in
+    λ mem. stores (startCall (args .shape)) (withRows (args .counters .now) (args .flags .now) mem) (args .words .now)
+    (made c .start .result) (calling-told _ _ _ _ _ _) (read c .cycle-of .ensures) (made c .start .ensures mem) (c .store .ensures)
 
 pub jorivelune-start-spec : {M : Type 1} → statement M
-jorivelune-start-spec =
-    tie.close
-    (tie.spec cycle-of-requires start-requires store-requires same-length same-length-2 returns)
+jorivelune-start-spec = tie.close (tie.spec cycle-of-requires start-requires store-requires same-length same-length-2 returns)

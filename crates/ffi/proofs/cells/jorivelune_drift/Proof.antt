@@ -1,8 +1,7 @@
--- `ffi::cells::jorivelune_drift` meets its contract: its answer is the number of the outcome. Assumes nothing.
+-- `ffi::cells::jorivelune_drift` meets its contract: its number is that of the outcome. Assumes nothing.
 use borrow.Author.Needs.{needs}
-use Rattle.array.specs.Arrays.{driftRefusal}
-use Rattle.array.specs.Answers.{driftOutcome}
-use Rattle.words.proofs.Stored.{numbered}
+use Rattle.array.specs.Calls.{driftCall}
+use Rattle.ffi.proofs.Numbers.{calling-told, gives-number}
 use Rattle.ffi.proofs.cells.jorivelune_drift.Statement.{statement}
 use Rattle.ffi.proofs.cells.jorivelune_drift.Tie as tie
 
@@ -16,11 +15,10 @@ same-length : tie.Need-same-length
 same-length c = search needs
 
 returns : tie.Need-returns
-unfolding driftOutcome
+unfolding driftCall
 returns c =
-    let done = c .before .before .before in
-    let args = done .before .before .before .args in
-    (numbered (driftRefusal (args .shape) (args .cells .now) (args .row) (args .column) (args .level)) (done .drift .ensures .0) (c .number-of .ensures), done .drift .ensures .1)
+    let made = c .before .before .before .drift in
+    λ mem. gives-number (calling-told _ _ _ _ _ _) (made .result) (made .ensures mem) (c .number-of .ensures)
 
 pub jorivelune-drift-spec : {M : Type 1} → statement M
 jorivelune-drift-spec = tie.close (tie.spec drift-requires number-of-requires same-length returns)

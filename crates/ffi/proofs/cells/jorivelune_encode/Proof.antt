@@ -1,7 +1,7 @@
--- `ffi::cells::jorivelune_encode` meets its contract: its answer is the number of the outcome. Assumes nothing.
+-- `ffi::cells::jorivelune_encode` meets its contract: its number is that of the outcome. Assumes nothing.
 use borrow.Author.Needs.{needs}
-use Rattle.row.specs.Rows.{encodeRefusal}
-use Rattle.words.proofs.Stored.{numbered}
+use Rattle.acam.specs.Rows.{encodeCall}
+use Rattle.ffi.proofs.Numbers.{calling-told, gives-number}
 use Rattle.ffi.proofs.cells.jorivelune_encode.Statement.{statement}
 use Rattle.ffi.proofs.cells.jorivelune_encode.Tie as tie
 
@@ -15,11 +15,10 @@ same-length : tie.Need-same-length
 same-length c = search needs
 
 returns : tie.Need-returns
+unfolding encodeCall
 returns c =
-    let done = c .before .before .before in
-    let args = done .before .before .before .args in
-    (numbered (encodeRefusal (args .shape) (args .row .now)) (done .encode-row .ensures .0) (c .number-of .ensures), done .encode-row .ensures .1)
+    let made = c .before .before .before .encode-row in
+    gives-number (calling-told _ _ _ _ _ _) (made .result) (made .ensures) (c .number-of .ensures)
 
 pub jorivelune-encode-spec : {M : Type 1} → statement M
-jorivelune-encode-spec =
-    tie.close (tie.spec encode-row-requires number-of-requires same-length returns)
+jorivelune-encode-spec = tie.close (tie.spec encode-row-requires number-of-requires same-length returns)

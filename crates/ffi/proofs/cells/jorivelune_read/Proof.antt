@@ -1,7 +1,7 @@
--- `ffi::cells::jorivelune_read` meets its contract: its answer is the number of the outcome. Assumes nothing.
+-- `ffi::cells::jorivelune_read` meets its contract: its number is that of the outcome. Assumes nothing.
 use borrow.Author.Needs.{needs}
-use Rattle.array.specs.Answers.{readRefusal, readOutcome}
-use Rattle.words.proofs.Stored.{numbered}
+use Rattle.array.specs.Calls.{readCall}
+use Rattle.ffi.proofs.Numbers.{calling-told, gives-number}
 use Rattle.ffi.proofs.cells.jorivelune_read.Statement.{statement}
 use Rattle.ffi.proofs.cells.jorivelune_read.Tie as tie
 
@@ -15,11 +15,10 @@ same-length : tie.Need-same-length
 same-length c = search needs
 
 returns : tie.Need-returns
-unfolding readOutcome
+unfolding readCall
 returns c =
-    let done = c .before .before .before in
-    let args = done .before .before .before .before .args in
-    (numbered (readRefusal (args .shape) (args .cells .now) (args .row) (args .out .now)) (done .read .ensures .0) (c .number-of .ensures), done .read .ensures .1)
+    let made = c .before .before .before .read in
+    λ mem. gives-number (calling-told _ _ _ _ _ _) (made .result) (made .ensures mem) (c .number-of .ensures)
 
 pub jorivelune-read-spec : {M : Type 1} → statement M
 jorivelune-read-spec = tie.close (tie.spec read-requires number-of-requires same-length returns)

@@ -1,75 +1,73 @@
 -- `job::run::drift_cells` meets its contract. The loop's invariant: `at` is where drift i begins, and the cells are those that the drifts
 -- before it leave. Assumes nothing.
-use mathlib.Core.Path.{_≡_, refl, sym, _∙_, ap}
-use mathlib.Core.Bool.{Bool, true, false, cond}
-use mathlib.Core.List.{List, [], _∷_}
-use Prim.Native.Nat.{ℕ, _+_, _-_, _*_, _≤_, _<_}
+use mathlib.Core.Path.{_≡_, refl, _∙_, ap}
+use mathlib.Core.List.{List, []}
+use Prim.Native.Nat.{ℕ, _+_, _-_, _≤_, _<_}
 use native.Mathlib.Omega.{arith}
-use lib.Dec.{eqb}
-use lib.ListN.{length, set, length-set}
-use Rattle.parity.specs.Lists.{joined}
-use Rattle.parity.specs.Shape.{columns}
+use lib.ListN.{length}
+use borrow.Author.Needs.{needs}
 use Rattle.parity.specs.declared.Shape.{Shape}
-use Rattle.array.specs.Arrays.{driftRefusal, driftCells}
-use Rattle.scrub.specs.Record.{idle}
-use Rattle.scrub.specs.Calls.{driftCall}
-use Rattle.scrub.specs.Run.{Call, drift, runFrom}
-use Rattle.scrub.specs.Methods.{stateOf}
-use Rattle.parse.specs.Parse.{byteAt, twoAt, driftCount, driftStart, driftRow, driftColumn, driftLevel}
-use Rattle.scrub.proofs.Runs.{run-next}
+use Rattle.shape.specs.Answers.{Said, Result, outcomeSays, giving}
+use Rattle.array_memory.specs.Memory.{Memory, withCells}
+use Rattle.array.specs.Calls.{driftCall}
+use Rattle.cycle.specs.Record.{idle}
+use Rattle.cycle.specs.Calls.{stateOf}
+use Rattle.cycle.specs.Run.{drift, runFrom}
+use Rattle.cycle.proofs.Runs.{run-next}
+use Rattle.job_parse.specs.Parse.{byteAt, twoAt, driftCount, driftStart, driftRow, driftColumn, driftLevel}
+use Rattle.job.specs.Job.{driftCalls}
 use Rattle.job.proofs.TakenJob.{takenJob}
 use Rattle.job.proofs.run.drift_cells.Statement.{statement}
 use Rattle.job.proofs.run.drift_cells.Tie as tie
 
--- drift i as a call, and the cells after the first i drifts
-abbrev driftAt : List ℕ → ℕ → Call
-driftAt input i = drift (driftRow input i) (driftColumn input i) (driftLevel input i)
+-- the first i drifts lead from the cells that were lent to the cells in hand
+abbrev Drifted : Shape → List ℕ → List ℕ → ℕ → List ℕ → Type 0
+Drifted s input cells₀ i cells =
+    (mem : Memory) → runFrom s (stateOf (withCells cells₀ mem) idle) (driftCalls input i) ≡ stateOf (withCells cells mem) idle
 
-abbrev drifted : Shape → List ℕ → List ℕ → ℕ → List ℕ
-drifted s input cells i = runFrom s (stateOf cells [] [] idle) (joined i (λ j. driftAt input j ∷ [])) .cells
-
--- a drift by the bytes at its place gives the cells after one drift more
+-- one drift more, by the bytes at its place
 next :
-    (s : Shape) (input cells₀ cells : List ℕ) (i at row column : ℕ) → at ≡ driftStart input i → row ≡ twoAt input at
-    → column ≡ byteAt input (at + 2) → cells ≡ drifted s input cells₀ i
-    → driftCells s cells row column (byteAt input (at + 3)) ≡ drifted s input cells₀ (i + 1)
-unfolding driftCall
-next s input cells₀ cells i at row column place r c before =
-    rw (r, c, place, before) (sym (ap (λ st. st .cells) (run-next s (stateOf cells₀ [] [] idle) (driftAt input) i)))
-
--- a drift keeps the cells' number
-drift-length : (s : Shape) (cells : List ℕ) (row column level : ℕ) → length (driftCells s cells row column level) ≡ length cells
-unfolding driftCells
-drift-length s cells row column level = go (eqb (driftRefusal s cells row column level) 0)
-  where
-    go : (b : Bool) → length (cond b (set cells (row * columns s + column) level) cells) ≡ length cells
-    go true = length-set cells (row * columns s + column) level
-    go false = refl
+    (s : Shape) (input cells₀ cells last : List ℕ) (i at row column : ℕ) → at ≡ driftStart input i → row ≡ twoAt input at
+    → column ≡ byteAt input (at + 2) → Drifted s input cells₀ i cells
+    → (said : Said ℕ)
+    → ((mem : Memory) → driftCall s (withCells cells mem) row column (byteAt input (at + 3)) ≡ giving said [] (withCells last mem))
+    → Drifted s input cells₀ (i + 1) last
+next s input cells₀ cells last i at row column place r c before said gives mem =
+    run-next s (stateOf (withCells cells₀ mem) idle) (λ i. drift (driftRow input i) (driftColumn input i) (driftLevel input i)) i
+    ∙ ap (λ st. stateOf (driftCall s (st .memory) (driftRow input i) (driftColumn input i) (driftLevel input i) .state) (st .cycle)) (before mem)
+    ∙ ap (λ (r : Result Memory). stateOf (r .state) idle) (rw (r, c, place) at (gives mem))
 
 abbrev Inv-loop : tie.InvT-loop
 Inv-loop input shape from cells₀ at₀ cells at =
-    (i : ℕ) × (at ≡ driftStart input i) × (i ≤ driftCount input) × (length cells ≡ length cells₀) × (cells ≡ drifted shape input cells₀ i)
+    (i : ℕ) × (at ≡ driftStart input i) × (i ≤ driftCount input) × (length cells ≡ length cells₀) × Drifted shape input cells₀ i cells
 
 abbrev μ-loop : tie.MeasureT-loop
 μ-loop input shape from cells₀ at₀ cells at = length input - at
 
+-- a turn, and the read of its column, from its end
+abbrev read : tie.After-slice-known2 Inv-loop μ-loop → tie.After-wide Inv-loop μ-loop
+read c = c .before .before .before .before .before
+
+abbrev turn : tie.After-slice-known2 Inv-loop μ-loop → tie.In-loop Inv-loop μ-loop
+turn c = read c .before .before .before
+
 module _ (c : tie.In-loop Inv-loop μ-loop) where
-  abbrev start : tie.Start Inv-loop μ-loop
-  start = c .before .before .before .before
+  abbrev begun : tie.Start Inv-loop μ-loop
+  begun = c .before .before .before .before
 
   -- a turn has its whole drift before it
   room :
-      let input = start .args .input .now in
+      let input = begun .args .input .now in
       (c .before .loop .at + 4 ≤ length input) × (c .before .loop .inv .0 < driftCount input) × (length input ≤ 32768)
   room =
-      let job = takenJob (start .args .input .now) (start .pre .0) in
+      let job = takenJob (begun .args .input .now) (begun .pre .0) in
       let sized = job .sized in
       let short = job .short in
       let inv = c .before .loop .inv in
       (omega arith, omega arith, short)
 
 loop-holds : tie.Need-loop-holds Inv-loop μ-loop
-loop-holds c = (0, c .before .before .pre .3, omega arith, refl, refl)
+loop-holds c = (0, c .before .before .pre .1, omega arith, refl, λ mem. refl)
 
 two-at-requires : tie.Need-two-at-requires Inv-loop μ-loop
 two-at-requires c κs = omega (arith, room c)
@@ -93,25 +91,23 @@ drift-requires : tie.Need-drift-requires Inv-loop μ-loop
 drift-requires c κs = tt
 
 add-at : tie.Need-add-at Inv-loop μ-loop
-add-at c = omega (arith, room (c .before .before .before .before .before .before .before .before))
+add-at c = omega (arith, room (turn c))
 
 loop-less : tie.Need-loop-less Inv-loop μ-loop
-loop-less c = omega (arith, room (c .before .before .before .before .before .before .before .before))
+loop-less c = omega (arith, room (turn c))
 
 loop-again : tie.Need-loop-again Inv-loop μ-loop
 loop-again c =
-    let read = c .before .before .before .before .before in
-    let turn = read .before .before .before in
-    let args = start turn .args in
-    let inv = turn .before .loop .inv in
-    let written = c .before .before .drift .ensures .1 in
-    let row = read .before .before .two-at .ensures in
-    let column = read .wide .ensures in (
+    let loop = turn c .before .loop in
+    let inv = loop .inv in
+    let call = c .before .before .drift in
+    let args = begun (turn c) .args in (
       inv .0 + 1,
       omega arith,
-      omega (arith, room turn),
-      ap length written ∙ drift-length (args .shape) _ _ _ _ ∙ inv .3,
-      written ∙ next (args .shape) (args .input .now) (args .cells .now) _ (inv .0) _ _ _ (inv .1) row column (inv .4),
+      omega (arith, room (turn c)),
+      search needs,
+      next (args .shape) (args .input .now) (args .cells .now) (loop .cells) _ (inv .0) (loop .at) _ _ (inv .1) (read c .before .before .two-at .ensures)
+          (read c .wide .ensures) (inv .4) (outcomeSays (call .result)) (call .ensures),
     )
 
 same-length : tie.Need-same-length Inv-loop μ-loop
@@ -119,12 +115,12 @@ same-length c = c .before .loop .inv .3
 
 returns : tie.Need-returns Inv-loop μ-loop
 returns c =
-    let args = c .before .before .before .before .args in
-    let job = takenJob (args .input .now) (c .before .before .before .before .pre .0) in
-    let sized = job .sized in
+    let begun = c .before .before .before .before in
+    let args = begun .args in
+    let sized = takenJob (args .input .now) (begun .pre .0) .sized in
     let inv = c .before .loop .inv in
-    let all : inv .0 ≡ driftCount (args .input .now) = omega arith in
-    inv .4 ∙ ap (drifted (args .shape) (args .input .now) (args .cells .now)) all
+    let all : driftCount (args .input .now) ≡ inv .0 = omega arith in
+    λ mem. ap (λ n. runFrom (args .shape) (stateOf (withCells (args .cells .now) mem) idle) (driftCalls (args .input .now) n)) all ∙ inv .4 mem
 
 pub drift-cells-spec : {M : Type 1} → statement M
 drift-cells-spec =

@@ -1,29 +1,51 @@
 -- `job::run::run_calls` meets its contract: each call leaves what the next one finds, and all of them the state of the job. Assumes nothing.
-use mathlib.Core.Path.{sym, _∙_, ap, subst}
-use Prim.Native.Nat.{_+_, _*_}
+use mathlib.Core.Path.{refl, sym, _∙_, ap, subst}
+use Prim.Native.Nat.{_+_, _*_, _≤_}
 use native.Mathlib.Omega.{arith}
 use borrow.Author.Needs.{needs}
 use Rattle.parity.specs.Questions.{Taken}
-use Rattle.scrub.specs.Record.{idle}
-use Rattle.scrub.specs.Methods.{stateOf}
-use Rattle.parse.proofs.Sizes.{levels-fit}
+use Rattle.array_memory.specs.Memory.{Memory, withCells, withRows, noMemory, Sized}
+use Rattle.job_parse.proofs.Sizes.{levels-fit}
 use Rattle.job.proofs.TakenJob.{takenJob}
-use Rattle.job.proofs.JobCalls.{cellsAfter, programs, drifts, job-ended}
+use Rattle.job.proofs.JobCalls.{clear-left, job-ended}
 use Rattle.job.proofs.run.run_calls.Statement.{statement}
 use Rattle.job.proofs.run.run_calls.Tie as tie
 
+-- the places of the call and of its parts, each from one that follows
+abbrev entered : tie.After-struct-known → tie.Start
+entered c = c .before .before .before .before .before .before
+
+abbrev begun : tie.After-clear → tie.Start
+begun c = entered (c .before .before .before .before)
+
+abbrev cleared : tie.After-program-rows → tie.After-clear
+cleared c = c .before .before .before .before .before .before .before .before
+
+abbrev programmed : tie.After-drift-cells → tie.After-program-rows
+programmed c = c .before .before .before .before
+
+abbrev drifted : tie.After-run-cycle → tie.After-drift-cells
+drifted c = c .before .before .before .before .before .before .before
+
+abbrev ran : tie.After-result → tie.After-run-cycle
+ran c = c .before .before .before .before .before .before .before
+
+-- the shape is taken, and the levels are few enough to be counted
 taken : (c : tie.Start) → Taken (c .args .shape)
 taken c = subst (λ s. Taken s) (sym (c .pre .0 .1)) (takenJob (c .args .input .now) (c .pre .0 .0) .taken)
 
+few : (c : tie.Start) → c .args .shape .rows * c .args .shape .width ≤ 1044480
+few c = levels-fit (c .args .shape) (taken c)
+
+-- what the clear leaves beside the cells
+abbrev rest : tie.After-clear → Memory
+rest c = withRows (c .clear .last .1 .1 .1 .0) (c .clear .last .1 .1 .1 .1 .0) noMemory
+
 mul-from : tie.Need-mul-from
-mul-from c =
-    let start = c .before .before .before .before .before .before in
-    omega (arith, levels-fit (start .args .shape) (taken start))
+mul-from c = omega (arith, few (entered c))
 
 add-from : tie.Need-add-from
-add-from c =
-    let start = c .before .before .before .before .before .before in
-    omega (arith, levels-fit (start .args .shape) (taken start))
+add-from c = omega (arith, few (entered c))
 
 clear-requires : tie.Need-clear-requires
 clear-requires c κs = search needs
@@ -33,16 +55,8 @@ program-rows-requires c κs = search needs
 
 drift-cells-requires : tie.Need-drift-cells-requires
 drift-cells-requires c κs =
-    let programmed = c .before .before .before in
-    let cleared = programmed .before .before .before .before .before .before .before .before in
-    let start = cleared .before .before .before .before .before .before .before .before .before .before in
-    let shaped = start .pre .0 .1 in
-    let sizes = start .pre .1 in (
-      start .pre .0 .0,
-      shaped,
-      programmed .program-rows .kept .1 .1 .0 ∙ cleared .clear .kept .1 .1 .0 ∙ sizes .0,
-      ap (λ s. 13 + s .rows * s .width) shaped ∙ omega arith,
-    )
+    let pre = begun (cleared (c .before .before .before)) .pre .0 in
+    (pre .0, ap (λ s. 13 + s .rows * s .width) (pre .1) ∙ omega arith)
 
 run-cycle-requires : tie.Need-run-cycle-requires
 run-cycle-requires c κs = search needs
@@ -61,26 +75,28 @@ same-length-4 c = search needs
 
 returns : tie.Need-returns
 returns c =
-    let ran = c .before .before .before .before .before .before .before in
-    let drifted = ran .before .before .before .before .before .before .before in
-    let programmed = drifted .before .before .before .before in
-    let cleared = programmed .before .before .before .before .before .before .before .before in
-    let start = cleared .before .before .before .before .before .before .before .before .before .before in
-    let args = start .args in
-    let s = args .shape in
-    let st = stateOf (args .cells .now) (args .counters .now) (args .flags .now) idle in
+    let cycle = ran c .run-cycle in
+    let drift = drifted (ran c) .drift-cells in
+    let program = programmed (drifted (ran c)) .program-rows in
+    let after = cleared (programmed (drifted (ran c))) in
+    let clear = after .clear in
+    let start = begun after in
+    let lent = start .args in
+    let s = lent .shape in
     let sizes = start .pre .1 in
-    let ended = job-ended (args .input .now) s (start .pre .0 .1) (taken start) (args .matches .now) (sizes .3) st
-    record { cells = sizes .0; counters = sizes .1; flags = sizes .2 }
-    (drifted .drift-cells .last .1 .1 .1 .0)
-    (cleared .clear .last .1 .1 .1 .0)
-    (cleared .clear .last .1 .1 .1 .1 .0)
-    (drifted .drift-cells .kept .1 .1 .1 .0 ∙ programmed .program-rows .kept .1 .1 .0 ∙ cleared .clear .kept .1 .1 .0 ∙ sizes .0)
-    (drifted .drift-cells .ensures ∙ ap (λ cells. cellsAfter s cells (drifts (args .input .now) s)) (programmed .program-rows .ensures ∙ ap (λ cells. cellsAfter s cells (programs (args .input .now) s)) (cleared .clear .ensures .1 .0)))
-    (cleared .clear .ensures .1 .1 .0)
-    (cleared .clear .ensures .1 .1 .1)
-    in
-    (ap (λ r. r .cycle) (ran .run-cycle .ensures .0) ∙ ap (λ x. x .cycle) ended, ran .run-cycle .ensures .1 .1 .1 ∙ ap (λ x. x .flags) ended)
+    let first = withCells (clear .last .1 .1 .0) (rest after) in
+    let last = withCells (drift .last .1 .1 .1 .0) (rest after) in
+    let sized : Sized s last =
+    record {
+      cells = drift .kept .1 .1 .1 .0 ∙ program .kept .1 .1 .0 ∙ clear .kept .1 .1 .0 ∙ sizes .0 .cells;
+      counters = clear .kept .1 .1 .1 .0 ∙ sizes .0 .counters;
+      flags = clear .kept .1 .1 .1 .1 .0 ∙ sizes .0 .flags;
+    } in
+    job-ended (lent .input .now) s (start .pre .0 .1) (taken start) first (withCells (program .last .1 .1 .0) (rest after)) last
+    (withRows (cycle .last .1 .1 .1 .0) (cycle .last .1 .1 .1 .1 .0) last)
+    (clear-left s (taken start) (lent .cells .now) (lent .counters .now) (lent .flags .now) (sizes .0) (clear .result) first (clear .ensures noMemory))
+    (program .ensures (rest after)) (drift .ensures (rest after)) sized (lent .matches .now) (sizes .1) (cycle .result) (cycle .last .1 .1 .1 .1 .1 .0)
+    (cycle .ensures noMemory) refl
 
 pub run-calls-spec : {M : Type 1} → statement M
 run-calls-spec =

@@ -1,0 +1,127 @@
+-- `acam::matrix::matrix_of` meets its contract: the rule columns in front, the check columns behind them, and 0 in what is left.
+-- Assumes nothing.
+use mathlib.Core.Path.{_≡_, sym, _∙_, ap, ap₂}
+use mathlib.Core.List.{List, _++_, append-assoc}
+use Prim.Native.Nat.{ℕ, zero, suc, _+_, _-_, _≤_}
+use native.Mathlib.Nat.{sub-zero, zero-sub, suc-sub-suc, add-sub-cancel-left}
+use native.Mathlib.Omega.{arith}
+use lib.ListN.{length, take, drop, replicate, length-append, length-take, length-drop}
+use lib.Seq.{length-take-le, take-at, drop-at, drop-drop}
+use borrow.Author.Needs.{needs}
+use borrow.Rule.Slice.PartMut.{putMid}
+use Rattle.parity.specs.Shape.{checks, columns}
+use Rattle.parity.specs.Matrix.{ruleColumns, checkColumns, matrix}
+use Rattle.parity.specs.Questions.{Taken}
+use Rattle.parity.specs.declared.Shape.{Shape}
+use Rattle.parity.proofs.Redundancy.{redundancyClaim}
+use Rattle.parity.proofs.MatrixFacts.{rules-sized}
+use Rattle.acam.specs.Matrices.{matrixArray}
+use Rattle.acam.proofs.Sizes.{columns-high}
+use Rattle.acam.proofs.matrix.matrix_of.Statement.{statement}
+use Rattle.acam.proofs.matrix.matrix_of.Tie as tie
+
+-- the array before anything is written
+abbrev zeros : List ℕ
+zeros = replicate 255 0
+
+drop-replicate : (n m a : ℕ) → drop n (replicate m a) ≡ replicate (m - n) a
+drop-replicate zero m a = rw sub-zero
+drop-replicate (suc n) zero a = rw zero-sub
+drop-replicate (suc n) (suc m) a = rw suc-sub-suc (drop-replicate n m a)
+
+-- two lists laid one behind the other over a third
+laid : (xs ys over : List ℕ) (k r : ℕ) → length xs ≡ k → putMid k (k + r - k) (xs ++ drop k over) ys ≡ xs ++ ys ++ drop (k + r) over
+laid xs ys over k r e =
+    rw (add-sub-cancel-left k r, take-at xs (drop k over) k e, drop-at xs (drop k over) k e, drop-drop r k over, append-assoc)
+
+module _ (s : Shape) (r : ℕ) (pre : Taken s × (r ≡ checks s)) where
+  fits : s .width + r ≤ 255
+  unfolding columns
+  fits = omega (arith, columns-high s (pre .0))
+
+  -- the part that is lent for the rule columns, and what fills it
+  front : length (take (s .width) zeros) ≡ s .width
+  front = length-take-le (s .width) zeros (omega (arith, fits))
+
+  rules-fill : ruleColumns (s .errors) r (length (take (s .width) zeros)) ≡ ruleColumns (s .errors) (checks s) (s .width)
+  rules-fill = ap₂ (ruleColumns (s .errors)) (pre .1) front
+
+add-end : tie.Need-add-end
+add-end c = omega (arith, fits (c .args .shape) (c .args .checks) (c .pre))
+
+array-borrow-prefix-matrix : tie.Need-array-borrow-prefix-matrix
+array-borrow-prefix-matrix c = omega (arith, fits (c .args .shape) (c .args .checks) (c .pre))
+
+slice-aggregate-fill-rules : tie.Need-slice-aggregate-fill-rules
+slice-aggregate-fill-rules c = sym (front (c .before .args .shape) (c .before .args .checks) (c .before .pre))
+
+fill-rules-requires : tie.Need-fill-rules-requires
+fill-rules-requires c κs =
+    let s = c .before .args .shape in
+    let r = c .before .args .checks in
+    let pre = c .before .pre in
+    (omega (arith, redundancyClaim s (pre .0) .high), ap length (rules-fill s r pre) ∙ rules-sized s (pre .0) ∙ sym (front s r pre))
+
+sub-fill-checks : tie.Need-sub-fill-checks
+sub-fill-checks c = search needs
+
+part-matrix-start : tie.Need-part-matrix-start
+part-matrix-start c = search needs
+
+part-matrix-end : tie.Need-part-matrix-end
+part-matrix-end c =
+    let args = c .before .before .before .args in
+    let k = args .shape .width in
+    let pre = c .before .before .before .pre in
+    omega (
+      arith,
+      length-append (c .before .fill-rules .last .0) (drop k zeros),
+      length-drop k zeros,
+      c .before .fill-rules .kept .0,
+      front (args .shape) (args .checks) pre,
+      fits (args .shape) (args .checks) pre,
+    )
+
+fill-checks-requires : tie.Need-fill-checks-requires
+fill-checks-requires c κs =
+    let args = c .before .before .before .before .args in
+    let k = args .shape .width in
+    let pre = c .before .before .before .before .pre in
+    omega (
+      arith,
+      length-take (k + args .checks - k) (drop k (c .before .before .fill-rules .last .0 ++ drop k zeros)),
+      redundancyClaim (args .shape) (pre .0) .high,
+    )
+
+returns : tie.Need-returns
+unfolding matrixArray matrix columns
+returns c =
+    let filled = c .before .before .before .before in
+    let start = filled .before .before in
+    let s = start .args .shape in
+    let r = start .args .checks in
+    let k = s .width in
+    let rules = filled .fill-rules in
+    let check = c .before .fill-checks in
+    let first : rules .last .0 ≡ ruleColumns (s .errors) (checks s) k = rules .ensures ∙ rules-fill s r (start .pre) in
+    let count : length (take (k + r - k) (drop k (rules .last .0 ++ drop k zeros))) ≡ checks s
+    = sym (c .before .before .matrix3 .given .1) ∙ add-sub-cancel-left k r ∙ start .pre .1 in
+    let behind : check .last .0 ≡ checkColumns (checks s) = check .ensures ∙ ap checkColumns count in
+    let rest : drop (k + r) zeros ≡ replicate (255 - (k + checks s)) 0
+    = drop-replicate (k + r) 255 0 ∙ ap (λ n. replicate (255 - (k + n)) 0) (start .pre .1) in
+    laid (rules .last .0) (check .last .0) zeros k r (ap length first ∙ rules-sized s (start .pre .0))
+    ∙ (λ i. first i ++ behind i ++ rest i)
+
+pub matrix-of-spec : {M : Type 1} → statement M
+matrix-of-spec =
+    tie.close
+    (tie.spec
+    add-end
+    array-borrow-prefix-matrix
+    slice-aggregate-fill-rules
+    fill-rules-requires
+    sub-fill-checks
+    part-matrix-start
+    part-matrix-end
+    fill-checks-requires
+    returns)

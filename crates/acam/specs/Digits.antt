@@ -1,0 +1,18 @@
+-- Only serves the code's own contracts: sums of digits, check row by check row, and the digit that completes one.
+use mathlib.Core.List.{List}
+use Prim.Native.Nat.{ℕ, _+_, _-_, _*_, _/_, _%_}
+use lib.ListN.{length, getD, take}
+use Rattle.parity.specs.Lists.{tabulate}
+use Rattle.parity.proofs.Sums.{checkSum}
+
+-- what brings a sum to 0 mod ρ
+abbrev pub missing : ℕ → ℕ → ℕ
+missing ρ sum = (ρ - sum % ρ) % ρ
+
+-- check cell l with that digit of its check row's sum, at ρ^s = power
+abbrev pub completed : List ℕ → List ℕ → ℕ → ℕ → ℕ → ℕ
+completed cells sums ρ power l = getD cells l 0 + missing ρ (getD sums l 0) * power
+
+-- for each of 8 check rows, the digits of the cells whose columns have a one there, at ρ^s = power
+abbrev pub digitSums : List ℕ → List ℕ → ℕ → ℕ → List ℕ
+digitSums cells matrix ρ power = tabulate 8 (λ l. checkSum (λ v. v / power % ρ) l (take (length cells) matrix) cells)

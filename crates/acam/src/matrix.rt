@@ -1,0 +1,97 @@
+// The columns of a shape's check matrix: the rule columns, then the check columns.
+use super::order::choices;
+use super::order::column_order;
+use super::order::power_of_two;
+use parity::Shape;
+use shape::byte::copy;
+use shape::byte::fill;
+use shape::byte::wide;
+ghost use mathlib.Core.Path.{_≡_};
+ghost use mathlib.Core.Bool.{cond};
+ghost use Prim.Native.Nat.{_≤_};
+ghost use lib.ListN.{length};
+ghost use Rattle.parity.specs.Lists.{keep, filledFrom};
+ghost use Rattle.parity.specs.Questions.{Taken};
+ghost use Rattle.parity.specs.Shape.{checks as checksOf};
+ghost use Rattle.parity.specs.Matrix.{columnOrder, eligible, ruleColumns, checkColumns};
+ghost use Rattle.acam.specs.Matrices.{ruleWeight, matrixArray};
+ghost use Rattle.shape.specs.Lent.{was, left};
+
+// How many of a weight's columns can be rule columns, for τ = 2 and 3: all of them or none.
+fn count_rules(errors: usize, weight: usize, columns: u8) -> usize
+    ensures { λ r. ⌜ r ≡ cond (ruleWeight errors weight) columns 0 ⌝ }
+{
+    if errors == 2 {
+        if weight < 2 {
+            return 0;
+        }
+        return wide(columns);
+    }
+    if weight < 3 {
+        return 0;
+    }
+    if weight % 2 == 1 {
+        return wide(columns);
+    }
+    0
+}
+
+// The lightest eligible columns, as many as the part holds: of each weight, the columns below 2^r come first.
+fn fill_lightest(part: &mut [u8], errors: usize, checks: usize)
+    requires { ⌜ checks ≤ 8 ⌝ }
+    ensures { λ _. ⌜ left part ≡ filledFrom (keep (eligible errors checks) columnOrder) (was part) ⌝ }
+{
+    let order = column_order();
+    let below = choices(checks);
+    let all = choices(8);
+    let mut found: usize = 0;
+    let mut place: usize = 0;
+    let mut w: usize = 0;
+    while w < 8 {
+        let count = count_rules(errors, w + 1, below[w]);
+        let to = place + count;
+        copy(&order[place..to], &mut part[found..]);
+        if part.len() - found <= count {
+            return;
+        }
+        found += count;
+        place += wide(all[w]);
+        w += 1;
+    }
+}
+
+fn fill_rules(part: &mut [u8], errors: usize, checks: usize)
+    requires { ⌜ (checks ≤ 8) × (length (ruleColumns errors checks (length (now part))) ≡ length (now part)) ⌝ }
+    ensures { λ _. ⌜ left part ≡ ruleColumns errors checks (length (was part)) ⌝ }
+{
+    if errors == 1 {
+        fill(part, 1);
+        return;
+    }
+    fill_lightest(part, errors, checks);
+}
+
+fn fill_checks(part: &mut [u8])
+    requires { ⌜ length (now part) ≤ 8 ⌝ }
+    ensures { λ _. ⌜ left part ≡ checkColumns (length (was part)) ⌝ }
+{
+    let mut l: usize = 0;
+    while l < part.len() {
+        part[l] = power_of_two(l) as u8;
+        l += 1;
+    }
+}
+
+// The columns of a shape that is taken with r check columns, and 0 behind them.
+pub fn matrix_of(shape: Shape, checks: usize) -> [u8; 255]
+    requires { ⌜ Taken shape × (checks ≡ checksOf shape) ⌝ }
+    ensures { λ r. ⌜ r ≡ matrixArray shape ⌝ }
+{
+    let errors = shape.errors;
+    let width = shape.width;
+    let end = width + checks;
+    let mut matrix = [0u8; 255];
+    fill_rules(&mut matrix[..width], errors, checks);
+    fill_checks(&mut matrix[width..end]);
+    matrix
+}

@@ -1,0 +1,3 @@
+-- The laws that several functions' proofs cite.
+pub mod RowBytes
+pub mod Asked

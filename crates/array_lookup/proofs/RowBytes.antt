@@ -1,0 +1,59 @@
+-- The match bytes of the rows of an array whose cells lie row after row: a row's match byte for inputs to its first cells, and that a task
+-- lookup's match byte is that of the first k cells. Assumes nothing.
+use mathlib.Core.Path.{_≡_, refl, sym, _∙_, ap}
+use mathlib.Core.Bool.{Bool, true, false, cond}
+use mathlib.Core.List.{List}
+use Prim.Native.Nat.{ℕ, _*_, _≤_, _<_}
+use native.Mathlib.Omega.{arith}
+use lib.ListN.{length, take, drop}
+use lib.Seq.{take-take}
+use Rattle.parity.specs.Match.{allAnswer, matchByte, taskVector}
+use Rattle.parity.specs.Shape.{checks, columns}
+use Rattle.parity.specs.declared.Shape.{Shape}
+use Rattle.shape.specs.declared.sizes.Sizes.{Sizes}
+use Rattle.acam.proofs.TaskMatch.{task-match}
+use Rattle.shape.specs.Shapes.{sizesOf}
+use Rattle.array_memory.specs.Geometry.{rowAt, rowMatch}
+use Rattle.array_memory.specs.Memory.{cellCount}
+use Rattle.array_memory.proofs.RowPlaces.{row-sized}
+use Rattle.array_memory.proofs.Asked.{CellsTaken}
+
+-- the match byte of row i, of n cells, for inputs to its first cells
+abbrev pub byteOf : List ℕ → List ℕ → ℕ → ℕ → ℕ
+byteOf inputs cells n i = matchByte inputs (take (length inputs) (drop (i * n) cells))
+
+pub byte-high : (inputs cells : List ℕ) (n i : ℕ) → byteOf inputs cells n i ≤ 1
+unfolding matchByte
+byte-high inputs cells n i = go (allAnswer inputs (take (length inputs) (drop (i * n) cells)))
+  where
+    go : (t : Bool) → cond t 1 0 ≤ 1
+    go true = omega arith
+    go false = omega arith
+
+-- the row as the part of the cells that begins at its start
+pub part-byte :
+    (inputs cells : List ℕ) (n i start size : ℕ) → start ≡ i * n → length inputs ≤ size
+    → matchByte inputs (take (length inputs) (take size (drop start cells))) ≡ byteOf inputs cells n i
+part-byte inputs cells n i start size e h =
+    ap (matchByte inputs) (take-take (length inputs) size (drop start cells) h ∙ ap (λ x. take (length inputs) (drop x cells)) e)
+
+-- of cells that are taken, by the sizes in hand
+module _ {s : Shape} {count : ℕ} (p : CellsTaken s count) (z : Sizes) (e : z ≡ sizesOf s) where
+  pub inputs-fit : (k : ℕ) → k ≡ s .width → k ≤ z .columns
+  unfolding columns
+  inputs-fit k sized = omega (arith, ap (λ z. z .columns) e)
+
+  pub rows-fit : s .rows * z .columns ≤ count
+  unfolding cellCount
+  rows-fit = omega (arith, p .counted, ap (λ z. s .rows * z .columns) e)
+
+pub task-byte :
+    (s : Shape) (z : Sizes) (inputs cells : List ℕ) → CellsTaken s (length cells) → z ≡ sizesOf s → length inputs ≡ s .width
+    → (i : ℕ) → i < s .rows → byteOf inputs cells (z .columns) i ≡ rowMatch (columns s) (taskVector s inputs) cells i
+unfolding rowMatch rowAt taskVector columns
+task-byte s z inputs cells p e sized i h =
+    let n = columns s in
+    ap (λ z. byteOf inputs cells (z .columns) i) e
+    ∙ sym (part-byte inputs cells n i (i * n) n refl (omega arith))
+    ∙ ap (λ k. matchByte inputs (take k (rowAt n cells i))) sized
+    ∙ sym (task-match (s .width) (checks s) inputs (rowAt n cells i) sized (row-sized s cells i (p .counted) h))

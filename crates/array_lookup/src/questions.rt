@@ -1,0 +1,36 @@
+// The questions of the lookups.
+use acam::sound::all_below;
+use array_memory::questions::check_cells;
+use parity::Shape;
+use shape::sizes::Checked;
+ghost use mathlib.Core.Path.{_≡_};
+ghost use Rattle.parity.specs.Questions.{firstNo};
+ghost use Rattle.shape.specs.Lent.{was};
+ghost use Rattle.shape.specs.Shapes.{checkedSays, sizesIf};
+ghost use Rattle.array_memory.specs.Questions.{cellsQuestions};
+ghost use Rattle.array_lookup.specs.Lookups.{lookupArguments};
+
+// 1 to 5, 6 on the cells, the match bytes and the inputs, 8 on the inputs. A call that no buffer for match bytes comes
+// with gives m for their number.
+pub(crate) fn check_lookup(shape: Shape, cells: usize, matches: usize, inputs: &[u8]) -> Checked
+    ensures { λ r. ⌜ checkedSays r ≡ sizesIf (firstNo (cellsQuestions shape cells (lookupArguments shape matches (was inputs)))) shape ⌝ }
+{
+    match check_cells(shape, cells) {
+        Checked::Refused(number) => Checked::Refused(number),
+        Checked::Taken(sizes) => {
+            let levels = sizes.levels;
+            let rows = shape.rows;
+            let width = shape.width;
+            if matches != rows {
+                return Checked::Refused(6);
+            }
+            if inputs.len() != width {
+                return Checked::Refused(6);
+            }
+            if !all_below(inputs, levels) {
+                return Checked::Refused(8);
+            }
+            Checked::Taken(sizes)
+        }
+    }
+}

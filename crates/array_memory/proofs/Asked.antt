@@ -1,0 +1,141 @@
+-- What it says of a call's arguments that no question on them fails, and the first no behind the questions on the cells. Assumes nothing.
+use mathlib.Core.Path.{_≡_, refl, _∙_, ap}
+use mathlib.Core.Bool.{true}
+use mathlib.Core.List.{List, [], _∷_, _++_}
+use Prim.Native.Nat.{ℕ, _+_, _*_, _≤_, _<_}
+use native.Mathlib.Omega.{arith}
+use lib.Dec.{ltb, lit<}
+use lib.ListN.{length}
+use borrow.Author.Tests.{eqb-true, ltb-true, eq-eqb, lt-ltb}
+use Rattle.parity.specs.Lists.{every}
+use Rattle.parity.specs.Shape.{levels, columns}
+use Rattle.parity.specs.Claims.{Below}
+use Rattle.parity.specs.Questions.{Question, firstNo, shapeQuestions, shapeRefusal, Taken, callQuestions}
+use Rattle.parity.specs.declared.Shape.{Shape}
+use Rattle.parity.proofs.ListLaws.{every-at, every-passes}
+use Rattle.parity.proofs.Taken.{first-yes}
+use Rattle.shape.specs.declared.sizes.Sizes.{Sizes}
+use Rattle.shape.specs.Shapes.{sizesOf}
+use Rattle.shape.proofs.Refusals.{first-none, taken-rest}
+use Rattle.array_memory.specs.Memory.{cellCount, cellsLength, rowsLengths, memoryLengths}
+use Rattle.array_memory.specs.Questions.{cellsQuestions, rowArguments, programArguments, driftArguments}
+use Rattle.array_memory.proofs.RowPlaces.{row-fits, cells-high}
+
+-- ---- the cells
+
+-- a shape that is taken, and m × n cells
+pub record CellsTaken (s : Shape) (cells : ℕ) : Type 0 where
+  pub taken : Taken s
+  pub counted : cells ≡ cellCount s
+
+module _ (s : Shape) (cells : ℕ) where
+  pub cells-taken : firstNo (cellsQuestions s cells []) ≡ 0 → CellsTaken s cells
+  unfolding shapeRefusal
+  cells-taken none =
+      let parts = first-none (shapeQuestions s) (cellsLength s cells ∷ []) refl none in
+      record { taken = parts .0; counted = eqb-true cells (cellCount s) (first-yes _ 0 6 (lit< tt) (parts .1) .0) }
+
+  -- .. and then what else is asked
+  pub cells-parts : (own : List Question) → firstNo (cellsQuestions s cells own) ≡ 0 → CellsTaken s cells × (firstNo own ≡ 0)
+  cells-parts own none =
+      let parts = first-none (cellsQuestions s cells []) own refl none in
+      (cells-taken (parts .0), parts .1)
+
+  pub cells-rest : CellsTaken s cells → (own : List Question) → firstNo (cellsQuestions s cells own) ≡ firstNo own
+  cells-rest p own = taken-rest s (p .taken) (cellsLength s cells ∷ own) ∙ rw (eq-eqb cells (cellCount s) (p .counted)) refl
+
+-- ---- a row, and the k bytes that come with it
+pub record RowTaken (s : Shape) (count given row : ℕ) : Type 0 where
+  pub cells : CellsTaken s count
+  pub part : given ≡ s .width
+  pub place : row < s .rows
+
+pub row-taken : (s : Shape) (cells part row : ℕ) → firstNo (cellsQuestions s cells (rowArguments s part row)) ≡ 0 → RowTaken s cells part row
+row-taken s cells part row none =
+    let parts = cells-parts s cells (rowArguments s part row) none in
+    let one = first-yes _ _ 6 (lit< tt) (parts .1) in
+    let two = first-yes _ 0 7 (lit< tt) (one .1) in
+    record { cells = parts .0; part = eqb-true part (s .width) (one .0); place = ltb-true row (s .rows) (two .0) }
+
+-- ---- levels
+
+levels-given : (s : Shape) (given : List ℕ) → every (λ v. ltb v (levels s)) given ≡ true → Below (levels s) (length given) given
+levels-given s given e j h = ltb-true _ _ (every-at (λ v. ltb v (levels s)) given 0 e j h)
+
+module _ (s : Shape) (row : ℕ) (given : List ℕ) where
+  -- what programming asks
+  pub record Programs : Type 0 where
+    pub sized : length given ≡ s .width
+    pub place : row < s .rows
+    pub below : Below (levels s) (s .width) given
+
+  pub program-reads : firstNo (programArguments s row given) ≡ 0 → Programs
+  program-reads e =
+      let one = first-yes _ _ 6 (lit< tt) e in
+      let two = first-yes _ _ 7 (lit< tt) (one .1) in
+      let three = first-yes _ 0 8 (lit< tt) (two .1) in
+      let sized = eqb-true (length given) (s .width) (one .0) in
+      record { sized = sized; place = ltb-true row (s .rows) (two .0); below = rw sized at (levels-given s given (three .0)) }
+
+  pub program-fits : Programs → firstNo (programArguments s row given) ≡ 0
+  program-fits p =
+      simp (
+        eq-eqb (length given) (s .width) (p .sized),
+        lt-ltb row (s .rows) (p .place),
+        every-passes (λ v. ltb v (levels s)) given 0 (λ j h. lt-ltb _ _ (p .below j (omega (arith, p .sized)))),
+      )
+
+-- what a drift asks
+pub record Drifts (s : Shape) (row column level : ℕ) : Type 0 where
+  pub place : row < s .rows
+  pub within : column < columns s
+  pub below : level < levels s
+
+pub drift-reads : (s : Shape) (row column level : ℕ) → firstNo (driftArguments s row column level) ≡ 0 → Drifts s row column level
+drift-reads s row column level e =
+    let one = first-yes _ _ 7 (lit< tt) e in
+    let two = first-yes _ _ 7 (lit< tt) (one .1) in
+    let three = first-yes _ 0 8 (lit< tt) (two .1) in
+    record {
+      place = ltb-true row (s .rows) (one .0);
+      within = ltb-true column (columns s) (two .0);
+      below = levels-given s (level ∷ []) (three .0) 0 (omega arith);
+    }
+
+-- ---- a row of cells that are taken, by the sizes in hand
+module _ {s : Shape} {cells : ℕ} (p : CellsTaken s cells) where
+  pub cells-bound : cells ≤ 1044480
+  unfolding cellCount
+  cells-bound = omega (arith, p .counted, cells-high s (p .taken))
+
+  pub row-within : (z : Sizes) → z ≡ sizesOf s → (row : ℕ) → row < s .rows → row * z .columns + z .columns ≤ cells
+  unfolding cellCount
+  row-within z e row h = rw (ap (λ z. z .columns) e, p .counted) (row-fits row (s .rows) (columns s) h)
+
+-- ---- the memory, by the numbers of its bytes
+pub record RowsTaken (s : Shape) (m n : ℕ) : Type 0 where
+  pub taken : Taken s
+  pub counters : m ≡ s .rows
+  pub flags : n ≡ s .rows
+
+pub rows-taken :
+    (s : Shape) (counters flags : ℕ) (own : List Question) → firstNo (callQuestions s [] (rowsLengths s counters flags) own) ≡ 0
+    → RowsTaken s counters flags × (firstNo own ≡ 0)
+unfolding shapeRefusal
+rows-taken s counters flags own none =
+    let parts = first-none (shapeQuestions s) (rowsLengths s counters flags ++ own) refl none in
+    let one = first-yes _ _ 6 (lit< tt) (parts .1) in
+    let two = first-yes _ _ 6 (lit< tt) (one .1) in
+    (record { taken = parts .0; counters = eqb-true counters (s .rows) (one .0); flags = eqb-true flags (s .rows) (two .0) }, two .1)
+
+pub record MemoryTaken (s : Shape) (count m n : ℕ) : Type 0 where
+  pub rows : RowsTaken s m n
+  pub cells : count ≡ cellCount s
+
+pub memory-taken :
+    (s : Shape) (cells counters flags : ℕ) (own : List Question) → firstNo (callQuestions s [] (memoryLengths s cells counters flags) own) ≡ 0
+    → MemoryTaken s cells counters flags × (firstNo own ≡ 0)
+memory-taken s cells counters flags own none =
+    let parts = rows-taken s counters flags (cellsLength s cells ∷ own) none in
+    let three = first-yes _ _ 6 (lit< tt) (parts .1) in
+    (record { rows = parts .0; cells = eqb-true cells (cellCount s) (three .0) }, three .1)

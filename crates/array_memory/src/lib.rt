@@ -1,0 +1,3 @@
+// The questions on the lent memory of an array, and on what comes with a call on its cells. Cells lie row after row.
+pub mod memory;
+pub mod questions;

@@ -1,0 +1,90 @@
+// The questions of the calls on the cells: each function gives the shape's sizes, or the number of the first no.
+use acam::sound::all_below;
+use parity::Shape;
+use shape::byte::wide;
+use shape::sizes::Checked;
+use shape::sizes::check_shape;
+ghost use mathlib.Core.Path.{_≡_};
+ghost use mathlib.Core.List.{[]};
+ghost use Rattle.parity.specs.Questions.{firstNo};
+ghost use Rattle.shape.specs.Lent.{was};
+ghost use Rattle.shape.specs.Shapes.{checkedSays, sizesIf};
+ghost use Rattle.array_memory.specs.Questions.{cellsQuestions, rowArguments, programArguments, driftArguments};
+
+// 1 to 5, and 6 on the cells.
+pub fn check_cells(shape: Shape, cells: usize) -> Checked
+    ensures { λ r. ⌜ checkedSays r ≡ sizesIf (firstNo (cellsQuestions shape cells [])) shape ⌝ }
+{
+    match check_shape(shape) {
+        Checked::Refused(number) => Checked::Refused(number),
+        Checked::Taken(sizes) => {
+            let columns = sizes.columns;
+            let rows = shape.rows;
+            if cells != rows * columns {
+                return Checked::Refused(6);
+            }
+            Checked::Taken(sizes)
+        }
+    }
+}
+
+// Then 6 on the k bytes that come with a call, and 7 on its row. A call that no such bytes come with gives k for
+// their number.
+pub fn check_row(shape: Shape, cells: usize, part: usize, row: usize) -> Checked
+    ensures { λ r. ⌜ checkedSays r ≡ sizesIf (firstNo (cellsQuestions shape cells (rowArguments shape part row))) shape ⌝ }
+{
+    match check_cells(shape, cells) {
+        Checked::Refused(number) => Checked::Refused(number),
+        Checked::Taken(sizes) => {
+            let width = shape.width;
+            let rows = shape.rows;
+            if part != width {
+                return Checked::Refused(6);
+            }
+            if rows <= row {
+                return Checked::Refused(7);
+            }
+            Checked::Taken(sizes)
+        }
+    }
+}
+
+// Then 8 on the levels of a row.
+pub fn check_program(shape: Shape, cells: usize, row: usize, given: &[u8]) -> Checked
+    ensures { λ r. ⌜ checkedSays r ≡ sizesIf (firstNo (cellsQuestions shape cells (programArguments shape row (was given)))) shape ⌝ }
+{
+    match check_row(shape, cells, given.len(), row) {
+        Checked::Refused(number) => Checked::Refused(number),
+        Checked::Taken(sizes) => {
+            let levels = sizes.levels;
+            if !all_below(given, levels) {
+                return Checked::Refused(8);
+            }
+            Checked::Taken(sizes)
+        }
+    }
+}
+
+// 1 to 5, 6 on the cells, 7 on a row and a column, 8 on a level.
+pub fn check_drift(shape: Shape, cells: usize, row: usize, column: usize, level: u8) -> Checked
+    ensures { λ r. ⌜ checkedSays r ≡ sizesIf (firstNo (cellsQuestions shape cells (driftArguments shape row column level))) shape ⌝ }
+{
+    match check_cells(shape, cells) {
+        Checked::Refused(number) => Checked::Refused(number),
+        Checked::Taken(sizes) => {
+            let levels = sizes.levels;
+            let columns = sizes.columns;
+            let rows = shape.rows;
+            if rows <= row {
+                return Checked::Refused(7);
+            }
+            if columns <= column {
+                return Checked::Refused(7);
+            }
+            if levels <= wide(level) {
+                return Checked::Refused(8);
+            }
+            Checked::Taken(sizes)
+        }
+    }
+}

@@ -1,0 +1,113 @@
+-- `cycle::Cycle::clear` meets its contract: `check_memory` asks, and all buffers are filled with 0. Assumes nothing.
+use mathlib.Core.Path.{_≡_, refl, sym, ap, _∙_}
+use mathlib.Core.List.{List, []}
+use Prim.Native.Nat.{ℕ}
+use lib.ListN.{length, replicate}
+use borrow.Author.Needs.{needs}
+use Rattle.parity.specs.Questions.{Question, firstNo}
+use Rattle.shape.proofs.Refusals.{told, fails, passes}
+use Rattle.array_memory.specs.Memory.{Memory, withAll, noMemory}
+use Rattle.array_memory.proofs.Asked.{MemoryTaken, memory-taken}
+use Rattle.cycle.specs.Record.{idle}
+use Rattle.cycle.specs.Calls.{zeroRows, cleared, clearQuestions, clearCall}
+use Rattle.cycle.proofs.Given.{gives-refusal, gives-done}
+use Rattle.cycle.proofs.Cycle.clear.Statement.{statement}
+use Rattle.cycle.proofs.Cycle.clear.Tie as tie
+
+-- the memory that is lent, whatever else is in it
+abbrev lent : tie.Start → Memory → Memory
+lent c mem = withAll (c .args .cells .now) (c .args .counters .now) (c .args .flags .now) mem
+
+abbrev questions : tie.Start → List Question
+questions c = clearQuestions (c .args .shape) (lent c noMemory)
+
+-- the call's place, from that where the questions are passed
+abbrev begun : tie.After-enum-told → tie.Start
+begun c = c .before .before .before .before .before .before
+
+-- the places of the two fills, from the end
+abbrev reset : tie.After-done → tie.After-reset-rows
+reset c = c .before .before .before .before .before
+
+abbrev filled : tie.After-reset-rows → tie.After-fill
+filled c = c .before .before .before .before .before
+
+module _ (c : tie.After-enum-told) where
+  none : firstNo (questions (begun c)) ≡ 0
+  none = passes (questions (begun c)) (begun c .args .shape) _ (told (c .before .before .check-memory .ensures) (c .enum-told .given .1)) .none
+
+  given : let args = begun c .args in MemoryTaken (args .shape) (length (args .cells .now)) (length (args .counters .now)) (length (args .flags .now))
+  given =
+      let args = begun c .args in
+      memory-taken (args .shape) (length (args .cells .now)) (length (args .counters .now)) (length (args .flags .now)) [] none .0
+
+check-memory-requires : tie.Need-check-memory-requires
+check-memory-requires c κs = search needs
+
+enum-known-number : tie.Need-enum-known-number
+enum-known-number c = search needs
+
+refused-requires : tie.Need-refused-requires
+refused-requires c κs = search needs
+
+enum-told : tie.Need-enum-told
+enum-told c = search needs
+
+fill-requires : tie.Need-fill-requires
+fill-requires c κs = search needs
+
+reset-rows-requires : tie.Need-reset-rows-requires
+reset-rows-requires c κs = search needs
+
+done-requires : tie.Need-done-requires
+done-requires c κs = search needs
+
+returns : tie.Need-returns
+unfolding clearCall
+returns c =
+    let asked = c .before .before .before .before in
+    let start = asked .before .before .before .before in
+    let number = c .before .before .number .given in
+    λ mem. gives-refusal (questions start) [] (lent start mem) (start .args .self) _ _ (number .0 .0)
+    (fails (questions start) (start .args .shape) (number .0 .0) (told (asked .check-memory .ensures) (number .1))) (c .refused .ensures)
+
+same-length : tie.Need-same-length
+same-length c = search needs
+
+same-length-2 : tie.Need-same-length-2
+same-length-2 c = search needs
+
+same-length-3 : tie.Need-same-length-3
+same-length-3 c = search needs
+
+returns-2 : tie.Need-returns-2
+unfolding clearCall cleared zeroRows
+returns-2 c =
+    let rows = reset c in
+    let cells-filled = filled rows in
+    let told = cells-filled .before .before in
+    let start = begun told in
+    let p = given told in
+    let zeros : ℕ → List ℕ = λ n. replicate n 0 in
+    let cells = cells-filled .fill .ensures ∙ ap zeros (p .cells) in
+    let counters = rows .reset-rows .ensures .0 ∙ ap zeros (p .rows .counters) in
+    let flags = rows .reset-rows .ensures .1 ∙ ap zeros (p .rows .flags) in
+    λ mem. gives-done (questions start) [] (lent start mem) (start .args .self) _ [] [] _ _ idle idle (none told) (c .done .ensures) refl
+    (sym (λ i. withAll (cells i) (counters i) (flags i) mem)) refl
+
+pub clear-spec : {M : Type 1} → statement M
+clear-spec =
+    tie.close
+    (tie.spec
+    check-memory-requires
+    enum-known-number
+    refused-requires
+    enum-told
+    fill-requires
+    reset-rows-requires
+    done-requires
+    returns
+    same-length
+    same-length-2
+    same-length-3
+    returns-2)

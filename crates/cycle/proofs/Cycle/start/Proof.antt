@@ -1,0 +1,128 @@
+-- `cycle::Cycle::start` meets its contract: `check_rows` asks, counters and flags are filled with 0, and the record is that of the first lookup.
+-- Assumes nothing.
+use mathlib.Core.Path.{refl, sym, ap, _∙_}
+use mathlib.Core.List.{List, []}
+use Prim.Native.Nat.{ℕ}
+use lib.ListN.{length, replicate}
+use borrow.Author.Needs.{needs}
+use Rattle.parity.specs.Questions.{Question}
+use Rattle.shape.proofs.Refusals.{told, fails, Passes, passes}
+use Rattle.array_memory.specs.Memory.{Memory, withRows, noMemory}
+use Rattle.array_memory.proofs.Asked.{RowsTaken, rows-taken}
+use Rattle.cycle.specs.Record.{cycleAt}
+use Rattle.cycle.specs.Calls.{zeroRows, startQuestions, started, startCall}
+use Rattle.cycle.proofs.MatrixPart.{Part, columns-part}
+use Rattle.cycle.proofs.Given.{gives-refusal, gives-done}
+use Rattle.cycle.proofs.Cycle.start.Statement.{statement}
+use Rattle.cycle.proofs.Cycle.start.Tie as tie
+
+-- the memory that is lent, whatever else is in it
+abbrev lent : tie.Start → Memory → Memory
+lent c mem = withRows (c .args .counters .now) (c .args .flags .now) mem
+
+abbrev questions : tie.Start → List Question
+questions c = startQuestions (c .args .shape) (lent c noMemory)
+
+-- the places of the call, of the sizes and of the two fills, each from one that follows
+abbrev begun : tie.After-sizes → tie.Start
+begun c = c .before .before .before .before .before
+
+abbrev filled : tie.After-matrix-of → tie.After-reset-rows
+filled c = c .before .before .before .before .before
+
+abbrev sized : tie.After-reset-rows → tie.After-sizes
+sized c = c .before .before .before .before
+
+module _ (c : tie.After-sizes) where
+  asked : Passes (questions (begun c)) (begun c .args .shape) (c .sizes .given .0 .0)
+  asked = passes _ _ _ (told (c .before .before .check-rows .ensures) (c .sizes .given .1))
+
+  given : let args = begun c .args in RowsTaken (args .shape) (length (args .counters .now)) (length (args .flags .now))
+  given = let args = begun c .args in rows-taken (args .shape) (length (args .counters .now)) (length (args .flags .now)) [] (asked .none) .0
+
+matrix-lent :
+    (c : tie.After-matrix-of)
+    → let sizes = sized (filled c) in
+    Part (begun sizes .args .shape) (sizes .sizes .given .0 .0 .columns) (c .matrix-of .result)
+matrix-lent c =
+    let sizes = sized (filled c) in
+    columns-part _ _ _ (given sizes .taken) (ap (λ z. z .columns) (asked sizes .sizes)) (c .matrix-of .ensures)
+
+check-rows-requires : tie.Need-check-rows-requires
+check-rows-requires c κs = search needs
+
+enum-known-number : tie.Need-enum-known-number
+enum-known-number c = search needs
+
+refused-requires : tie.Need-refused-requires
+refused-requires c κs = search needs
+
+enum-known-sizes : tie.Need-enum-known-sizes
+enum-known-sizes c = search needs
+
+reset-rows-requires : tie.Need-reset-rows-requires
+reset-rows-requires c κs = search needs
+
+matrix-of-requires : tie.Need-matrix-of-requires
+matrix-of-requires c κs =
+    let sizes = sized (c .before .before .before .before) in
+    (given sizes .taken, ap (λ z. z .checks) (asked sizes .sizes))
+
+array-share-prefix-matrix : tie.Need-array-share-prefix-matrix
+array-share-prefix-matrix c = matrix-lent c .within
+
+slice-aggregate-first : tie.Need-slice-aggregate-first
+slice-aggregate-first c = matrix-lent (c .before) .sized
+
+first-requires : tie.Need-first-requires
+first-requires c κs = (given (sized (filled (c .before))) .taken, matrix-lent (c .before) .holds)
+
+done-requires : tie.Need-done-requires
+done-requires c κs = search needs
+
+returns : tie.Need-returns
+unfolding startCall
+returns c =
+    let asked = c .before .before .before .before in
+    let start = asked .before .before .before in
+    let number = c .before .before .number .given in
+    λ mem. gives-refusal (questions start) [] (lent start mem) (start .args .self) _ _ (number .0 .0)
+    (fails (questions start) (start .args .shape) (number .0 .0) (told (asked .check-rows .ensures) (number .1))) (c .refused .ensures)
+
+same-length : tie.Need-same-length
+same-length c = search needs
+
+same-length-2 : tie.Need-same-length-2
+same-length-2 c = search needs
+
+returns-2 : tie.Need-returns-2
+unfolding startCall started zeroRows
+returns-2 c =
+    let reset = filled (c .before .before .before) in
+    let sizes = sized reset in
+    let start = begun sizes in
+    let p = given sizes in
+    let zeros : ℕ → List ℕ = λ n. replicate n 0 in
+    let counters = reset .reset-rows .ensures .0 ∙ ap zeros (p .counters) in
+    let flags = reset .reset-rows .ensures .1 ∙ ap zeros (p .flags) in
+    λ mem. gives-done (questions start) [] (lent start mem) (start .args .self) _ [] [] _ _ (cycleAt (start .args .shape) 0) _ (asked sizes .none)
+    (c .done .ensures) refl (sym (λ i. withRows (counters i) (flags i) mem)) (sym (c .before .first .ensures))
+
+pub start-spec : {M : Type 1} → statement M
+start-spec =
+    tie.close
+    (tie.spec
+    check-rows-requires
+    enum-known-number
+    refused-requires
+    enum-known-sizes
+    reset-rows-requires
+    matrix-of-requires
+    array-share-prefix-matrix
+    slice-aggregate-first
+    first-requires
+    done-requires
+    returns
+    same-length
+    same-length-2
+    returns-2)

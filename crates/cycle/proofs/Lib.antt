@@ -1,0 +1,12 @@
+-- The laws on records, questions and steps that the proofs of the functions, here and in the crates above, cite.
+pub mod Asked
+pub mod CycleRecord
+pub mod Steps
+pub mod Spans
+pub mod NextFactor
+pub mod Places
+pub mod Following
+pub mod StepPasses
+pub mod Given
+pub mod MatrixPart
+pub mod Runs

@@ -1,0 +1,111 @@
+-- What start and step do to a state with buffers of their lengths: to the record, and to the lines of the rows. Assumes nothing.
+use mathlib.Core.Path.{_≡_, refl, sym, ap, ap₂, _∙_}
+use mathlib.Core.Bool.{Bool, true, false, cond, _&&_}
+use mathlib.Core.List.{List}
+use Prim.Native.Nat.{ℕ, suc, _<_}
+use native.Mathlib.Omega.{arith}
+use lib.Dec.{eqb}
+use lib.ListN.{length, getD, take, length-replicate, getD-replicate}
+use lib.Seq.{take-all}
+use Rattle.parity.specs.Shape.{levels, columns}
+use Rattle.parity.specs.Matrix.{lookups}
+use Rattle.parity.specs.Codeword.{isCodeword}
+use Rattle.parity.specs.Claims.{Below}
+use Rattle.parity.specs.Questions.{Taken}
+use Rattle.parity.specs.declared.Shape.{Shape}
+use Rattle.parity.proofs.ListLaws.{length-tabulate, getD-tabulate}
+use Rattle.schedule.specs.Schedule.{full, within, schedule}
+use Rattle.schedule.specs.Line.{Line, lineStep, lineRun, freshLine}
+use Rattle.schedule.proofs.Length.{lengthClaim}
+use Rattle.schedule.proofs.Flags.{flag-test}
+use Rattle.schedule.proofs.Runs.{lineRun-take}
+use Rattle.schedule.proofs.Digit.{line}
+use Rattle.parity.specs.Questions.{ifTaken}
+use Rattle.shape.specs.Answers.{accepted, refused, giving, calling}
+use Rattle.shape.proofs.Calling.{call-done}
+use Rattle.array_memory.specs.Geometry.{rowAt, rowMatch, matchBytes}
+use Rattle.array_memory.specs.Memory.{Sized, cellCount}
+use Rattle.cycle.specs.Record.{entryAt, cycleAt, isNext}
+use Rattle.cycle.specs.Calls.{State, zeroRows, cleared, fresh, started, startCall, countedRows, flaggedRows, resetRows, stepMatches}
+use Rattle.cycle.specs.Calls.{steppedMemory, stepped, stepCall}
+use Rattle.cycle.specs.Run.{start, step, after}
+use Rattle.cycle.proofs.Asked.{start-asked, step-asked}
+
+-- the line of row i
+abbrev pub lineAt : State → ℕ → Line
+lineAt st i = line (getD (st .memory .counters) i 0) (getD (st .memory .flags) i 0)
+
+-- each row's line is that of the first c lookups of the schedule
+abbrev pub Lines : Shape → State → ℕ → Type 0
+Lines s st c = (i : ℕ) → i < s .rows → lineAt st i ≡ lineRun s (rowAt (columns s) (st .memory .cells) i) (take c (schedule full s)) freshLine
+
+module _ (s : Shape) (st : State) where
+  pub started-lines : Lines s (started s st) 0
+  unfolding started zeroRows
+  started-lines i h = ap₂ line (getD-replicate (s .rows) i 0 0 h) (getD-replicate (s .rows) i 0 0 h)
+
+  -- the three passes of a step, seen in one row
+  stepped-line :
+      (i : ℕ) → i < s .rows
+      → lineAt (stepped s st) i ≡ lineStep s (rowAt (columns s) (st .memory .cells) i) (entryAt s (st .cycle .count)) (lineAt st i)
+  unfolding stepped steppedMemory lineStep resetRows flaggedRows countedRows stepMatches matchBytes rowMatch
+  stepped-line i h = simp getD-tabulate
+
+  pub stepped-lines : Taken s → (c : ℕ) → c < lookups s → st .cycle .count ≡ c → Lines s st c → Lines s (stepped s st) (suc c)
+  unfolding stepped steppedMemory entryAt
+  stepped-lines t c h e lines i l =
+      let row : List ℕ = rowAt (columns s) (st .memory .cells) i in
+      stepped-line i l
+      ∙ ap₂ (λ n. lineStep s row (entryAt s n)) e (lines i l)
+      ∙ sym (lineRun-take s row (schedule full s) c (rw (lengthClaim s t) h) (within 0 0 0 0) freshLine)
+
+  -- after the whole schedule a row's flag says whether it is sound
+  pub lines-ended :
+      Taken s → Lines s st (lookups s) → (i : ℕ) → i < s .rows → length (rowAt (columns s) (st .memory .cells) i) ≡ columns s
+      → Below (levels s) (columns s) (rowAt (columns s) (st .memory .cells) i)
+      → getD (st .memory .flags) i 0 ≡ cond (isCodeword s (rowAt (columns s) (st .memory .cells) i)) 0 1
+  lines-ended t lines i h sized below =
+      let row : List ℕ = rowAt (columns s) (st .memory .cells) i in
+      ap (λ l. l .flag)
+      (lines i h
+      ∙ ap (λ es. lineRun s row es freshLine) (take-all (lookups s) (schedule full s) (omega (arith, lengthClaim s t)))
+      ∙ flag-test s t row sized below)
+
+  pub stepped-cycle : (c : ℕ) → st .cycle .count ≡ c → stepped s st .cycle ≡ cycleAt s (suc c)
+  unfolding stepped
+  stepped-cycle c e = ap (λ n. cycleAt s (suc n)) e
+
+  module _ (z : Sized s (st .memory)) where
+    pub started-sized : Sized s (started s st .memory)
+    unfolding started zeroRows
+    started-sized = record { cells = z .cells; counters = length-replicate (s .rows) 0; flags = length-replicate (s .rows) 0 }
+
+    pub stepped-sized : Sized s (stepped s st .memory)
+    unfolding stepped steppedMemory resetRows flaggedRows
+    stepped-sized = record { cells = z .cells; counters = length-tabulate (s .rows) _; flags = length-tabulate (s .rows) _ }
+
+    pub start-state : Taken s → after s st start ≡ started s st
+    unfolding startCall
+    start-state t = ap (λ r. r .state) (call-done _ _ st _ (start-asked s t st z))
+
+    -- a step is taken where the buffer has its length and the record a lookup to come
+    pub step-state :
+        Taken s → (matches : List ℕ)
+        → after s st (step matches) ≡ cond (eqb (length matches) (s .rows) && isNext s (st .cycle)) (stepped s st) st
+    unfolding stepCall calling
+    step-state t matches = rw (after, step-asked s t st z matches) (both (eqb (length matches) (s .rows)) (isNext s (st .cycle)))
+      where
+        both :
+            (a b : Bool)
+            → ifTaken (cond a (cond b 0 9) 6) (giving (accepted 0) (stepMatches s st) (stepped s st))
+            (giving (refused 0 (cond a (cond b 0 9) 6)) matches st) .state
+            ≡ cond (a && b) (stepped s st) st
+        both true true = refl
+        both true false = refl
+        both false b = refl
+
+-- the fresh array has buffers of their lengths
+pub fresh-sized : (s : Shape) → Sized s (fresh s .memory)
+unfolding fresh cleared zeroRows
+fresh-sized s =
+    record { cells = length-replicate (cellCount s) 0; counters = length-replicate (s .rows) 0; flags = length-replicate (s .rows) 0 }

@@ -1,0 +1,33 @@
+-- `cycle::passes::ends_digit` meets its contract: the rank is tested first, and the factor only where that test passes. Assumes nothing.
+use Prim.Native.Nat.{suc}
+use native.Mathlib.Numerals.{add-one}
+use native.Mathlib.Omega.{arith}
+use borrow.Author.Needs.{needs}
+use borrow.Author.Tests.{eq-eqb, ne-eqb}
+use Rattle.cycle.proofs.passes.ends_digit.Statement.{statement}
+use Rattle.cycle.proofs.passes.ends_digit.Tie as tie
+
+add-if1 : tie.Need-add-if1
+add-if1 c = search needs
+
+add-result : tie.Need-add-result
+add-result c = search needs
+
+returns : tie.Need-returns
+returns c =
+    let standing = c .before .before .before .before .args .standing in
+    rw (add-one, eq-eqb (suc (standing .rank)) (standing .size) (omega arith))
+
+returns-2 : tie.Need-returns-2
+returns-2 c =
+    let standing = c .before .before .before .args .standing in
+    rw (add-one, ne-eqb (suc (standing .rank)) (standing .size) (λ e. c .if1 .left (omega arith)))
+
+pub ends-digit-spec : {M : Type 1} → statement M
+ends-digit-spec =
+    tie.close
+    (tie.spec
+    add-if1
+    add-result
+    returns
+    returns-2)

@@ -1,0 +1,112 @@
+-- Document 01, "Calls on one array": each call that has the cycle record as one definition that gives all of its result, taken or refused.
+use mathlib.Core.List.{List, [], _∷_, _++_}
+use Prim.Native.Nat.{ℕ, suc}
+use lib.ListN.{length, getD, replicate}
+use Rattle.parity.specs.Lists.{tabulate}
+use Rattle.parity.specs.Shape.{columns}
+use Rattle.parity.specs.Questions.{Question, callQuestions, lengthQuestion}
+use Rattle.parity.specs.declared.Shape.{Shape}
+use Rattle.shape.specs.Answers.{Result, accepted, giving, calling}
+use Rattle.schedule.specs.Schedule.{Entry, testVector}
+use Rattle.schedule.specs.Line.{counted, flagged, reset}
+use Rattle.array_memory.specs.Geometry.{matchBytes}
+use Rattle.array_memory.specs.Memory.{Memory, withCells, withRows, noMemory, cellCount, rowsQuestions, memoryQuestions}
+use Rattle.array_memory.specs.Questions.{cellsQuestions, programArguments}
+use Rattle.array.specs.Calls.{programmed}
+use Rattle.cycle.specs.Record.{idle, entryAt, cycleAt, cycleQuestion}
+use Rattle.cycle.specs.declared.Cycle.{Cycle}
+
+-- the lent state of an array: its memory, and the cycle record
+pub record State : Type 0 where
+  pub memory : Memory
+  pub cycle : Cycle
+
+abbrev pub stateOf : Memory → Cycle → State
+stateOf memory cycle = record { memory = memory; cycle = cycle }
+
+-- ---- clear
+
+-- counters and flags all 0
+unfoldable pub zeroRows : Shape → Memory → Memory
+zeroRows s mem = withRows (replicate (s .rows) 0) (replicate (s .rows) 0) mem
+
+-- cells too
+unfoldable pub cleared : Shape → Memory → Memory
+cleared s mem = withCells (replicate (cellCount s) 0) (zeroRows s mem)
+
+-- 6 on the whole memory
+abbrev pub clearQuestions : Shape → Memory → List Question
+clearQuestions s mem = callQuestions s [] (memoryQuestions s mem) []
+
+-- cells, counters and flags all 0, record idle with count 0
+unfoldable pub clearCall : Shape → State → Result State
+clearCall s st = calling (clearQuestions s (st .memory)) [] st (giving (accepted 0) [] (stateOf (cleared s (st .memory)) idle))
+
+-- the fresh array: what a clear leaves
+unfoldable pub fresh : Shape → State
+fresh s = stateOf (cleared s noMemory) idle
+
+-- ---- program
+
+-- the row's cells are written, and the record becomes idle with count 0
+unfoldable pub programCall : Shape → State → ℕ → List ℕ → Result State
+programCall s st row given =
+    calling (cellsQuestions s (length (st .memory .cells)) (programArguments s row given)) [] st
+    (giving (accepted 0) [] (stateOf (programmed s (st .memory) row given) idle))
+
+-- ---- start
+
+-- 6 on counters and flags
+abbrev pub startQuestions : Shape → Memory → List Question
+startQuestions s mem = callQuestions s [] (rowsQuestions s mem) []
+
+-- counters and flags 0, record open, count 0, also when a cycle was open
+unfoldable pub started : Shape → State → State
+started s st = stateOf (zeroRows s (st .memory)) (cycleAt s 0)
+
+unfoldable pub startCall : Shape → State → Result State
+startCall s st = calling (startQuestions s (st .memory)) [] st (giving (accepted 0) [] (started s st))
+
+-- ---- step
+
+-- what a step asks of its arguments: 6 on the buffer for match bytes
+abbrev pub stepArguments : Shape → List ℕ → List Question
+stepArguments s matches = lengthQuestion (length matches) (s .rows) ∷ []
+
+-- 6 on the memory and the match bytes
+abbrev pub lentQuestions : Shape → Memory → List ℕ → List Question
+lentQuestions s mem matches = memoryQuestions s mem ++ stepArguments s matches
+
+-- .. then 9
+abbrev pub stepQuestions : Shape → State → List ℕ → List Question
+stepQuestions s st matches = callQuestions s [] (lentQuestions s (st .memory) matches) (cycleQuestion s (st .cycle) ∷ [])
+
+-- The passes of a step over the rows. Each match byte is added to its row's counter mod ρ, any byte found there by its remainder ..
+unfoldable pub countedRows : Shape → List ℕ → List ℕ → List ℕ
+countedRows s counters matches = tabulate (s .rows) (λ i. counted (s .radix) (getD counters i 0) (getD matches i 0))
+
+-- .. at the end of each s rows whose counter isn't 0 are flagged ..
+unfoldable pub flaggedRows : Shape → Entry → List ℕ → List ℕ → List ℕ
+flaggedRows s e counters flags = tabulate (s .rows) (λ i. flagged e (getD counters i 0) (getD flags i 0))
+
+-- .. and counters return to 0 after the last s of an ℓ.
+unfoldable pub resetRows : Shape → Entry → List ℕ → List ℕ
+resetRows s e counters = tabulate (s .rows) (λ i. reset e (getD counters i 0))
+
+-- the match bytes of the entry that the record stands at
+unfoldable pub stepMatches : Shape → State → List ℕ
+stepMatches s st = matchBytes (s .rows) (columns s) (testVector s (entryAt s (st .cycle .count))) (st .memory .cells)
+
+-- the memory after that entry's lookup is made and counted
+unfoldable pub steppedMemory : Shape → State → Memory
+steppedMemory s st =
+    let e = entryAt s (st .cycle .count) in
+    let counters = countedRows s (st .memory .counters) (stepMatches s st) in
+    withRows (resetRows s e counters) (flaggedRows s e counters (st .memory .flags)) (st .memory)
+
+-- the next lookup of the schedule is made and counted; after the last one the record is complete
+unfoldable pub stepped : Shape → State → State
+stepped s st = stateOf (steppedMemory s st) (cycleAt s (suc (st .cycle .count)))
+
+unfoldable pub stepCall : Shape → State → List ℕ → Result State
+stepCall s st matches = calling (stepQuestions s st matches) matches st (giving (accepted 0) (stepMatches s st) (stepped s st))

@@ -1,0 +1,61 @@
+-- The cycle record as a function of the shape and of the accepted steps since the start.
+use mathlib.Core.Bool.{Bool, true, false, cond, _&&_}
+use Prim.Native.Nat.{ℕ}
+use lib.Dec.{eqb, ltb}
+use lib.ListN.{length, getD}
+use Rattle.parity.specs.Questions.{Question}
+use Rattle.parity.specs.declared.Shape.{Shape}
+use Rattle.schedule.specs.Schedule.{Entry, full, within, schedule}
+use Rattle.cycle_place.specs.declared.Place.{Place}
+use Rattle.cycle.specs.declared.Cycle.{Cycle}
+use Rattle.cycle.specs.declared.Phase.{Phase}
+use Rattle.cycle.specs.declared.Phase.the-variants.{Idle, Open, Complete}
+
+-- the place with ℓ, s, j and a
+abbrev pub placeAt : ℕ → ℕ → ℕ → ℕ → Place
+placeAt ℓ s j a = record { check = ℓ; digit = s; column = j; factor = a }
+
+-- no place: no lookup is to come
+abbrev pub noPlace : Place
+noPlace = placeAt 0 0 0 0
+
+-- the place of an entry of the schedule
+abbrev pub placeOf : Entry → Place
+placeOf e = placeAt (e .check) (e .digit) (e .column) (e .factor)
+
+-- the idle record with count 0
+abbrev pub idle : Cycle
+idle = record { phase = Idle; place = noPlace; count = 0 }
+
+-- the open record whose next lookup is at a place
+abbrev pub openAt : Place → ℕ → Cycle
+openAt place c = record { phase = Open; place = place; count = c }
+
+-- the complete record
+abbrev pub completeAt : ℕ → Cycle
+completeAt c = record { phase = Complete; place = noPlace; count = c }
+
+-- the schedule's entry c, counted from 0
+unfoldable pub entryAt : Shape → ℕ → Entry
+entryAt s c = getD (schedule full s) c (within 0 0 0 0)
+
+-- the record that a start and c accepted steps leave: open while a vector is still to come, and complete after the last
+unfoldable pub cycleAt : Shape → ℕ → Cycle
+cycleAt s c = cond (ltb c (length (schedule full s))) (openAt (placeOf (entryAt s c)) c) (completeAt c)
+
+-- whether a record is open
+abbrev pub isOpen : Phase → Bool
+isOpen Idle = false
+isOpen Open = true
+isOpen Complete = false
+
+abbrev pub samePlace : Place → Place → Bool
+samePlace p q = eqb (p .check) (q .check) && eqb (p .digit) (q .digit) && eqb (p .column) (q .column) && eqb (p .factor) (q .factor)
+
+-- 9: is the record one that a start and accepted steps on this shape leave, with a vector still to come? It is the one with its own count.
+unfoldable pub isNext : Shape → Cycle → Bool
+isNext s cycle =
+    isOpen (cycle .phase) && ltb (cycle .count) (length (schedule full s)) && samePlace (cycle .place) (placeOf (entryAt s (cycle .count)))
+
+abbrev pub cycleQuestion : Shape → Cycle → Question
+cycleQuestion s cycle = record { number = 9; holds = isNext s cycle }

@@ -1,0 +1,138 @@
+// The calls that have the cycle record: clear, program, start and step. A refused call hands the record back as it was
+// given and leaves every buffer as it was.
+use super::Changed;
+use super::Cycle;
+use super::passes::look_and_count;
+use super::questions::Stepping;
+use super::questions::check_step;
+use acam::matrix::matrix_of;
+use array::change::write_row;
+use array_memory::memory::check_memory;
+use array_memory::memory::check_rows;
+use array_memory::questions::check_program;
+use cycle_passes::rows::reset_rows;
+use parity::Shape;
+use shape::answer::Outcome;
+use shape::byte::fill;
+use shape::sizes::Checked;
+ghost use mathlib.Core.Path.{_≡_};
+ghost use mathlib.Core.List.{[]};
+ghost use Rattle.shape.specs.Lent.{was, left};
+ghost use Rattle.array_memory.specs.Memory.{Memory, withCells, withRows, withAll};
+ghost use Rattle.cycle.specs.Calls.{stateOf, clearCall, programCall, startCall, stepCall};
+ghost use Rattle.cycle.specs.Methods.{changing, refusedWith, doneWith};
+
+// A refusal: the record as it was given.
+pub fn refused(cycle: Cycle, number: u8) -> Changed
+    ensures { λ r. ⌜ r ≡ refusedWith cycle number ⌝ }
+{
+    Changed {
+        outcome: Outcome::Refused(number),
+        cycle,
+    }
+}
+
+pub fn done(cycle: Cycle) -> Changed
+    ensures { λ r. ⌜ r ≡ doneWith cycle ⌝ }
+{
+    Changed {
+        outcome: Outcome::Done,
+        cycle,
+    }
+}
+
+impl Cycle {
+    // Clear: cells, counters and flags all 0, record idle: the fresh array.
+    pub fn clear(
+        self,
+        shape: Shape,
+        cells: &mut [u8],
+        counters: &mut [u8],
+        flags: &mut [u8],
+    ) -> Changed
+        ensures { λ r. ⌜ ((mem : Memory) → clearCall shape (stateOf (withAll (was cells) (was counters) (was flags) mem) self)
+            ≡ changing r [] (withAll (left cells) (left counters) (left flags) mem)) ⌝ }
+    {
+        match check_memory(shape, cells.len(), counters.len(), flags.len()) {
+            Checked::Refused(number) => refused(self, number),
+            Checked::Taken(_) => {
+                fill(cells, 0);
+                reset_rows(counters, flags);
+                done(Cycle::IDLE)
+            }
+        }
+    }
+
+    // Program: writes a row of k levels with its check cells; the record becomes idle.
+    pub fn program(self, shape: Shape, cells: &mut [u8], row: usize, given: &[u8]) -> Changed
+        ensures { λ r. ⌜ ((mem : Memory) → programCall shape (stateOf (withCells (was cells) mem) self) row (was given)
+            ≡ changing r [] (withCells (left cells) mem)) ⌝ }
+    {
+        match check_program(shape, cells.len(), row, given) {
+            Checked::Refused(number) => refused(self, number),
+            Checked::Taken(sizes) => {
+                write_row(shape, sizes, cells, row, given);
+                done(Cycle::IDLE)
+            }
+        }
+    }
+
+    // Start: counters and flags 0, record open, also when a cycle was open.
+    pub fn start(self, shape: Shape, counters: &mut [u8], flags: &mut [u8]) -> Changed
+        ensures { λ r. ⌜ ((mem : Memory) → startCall shape (stateOf (withRows (was counters) (was flags) mem) self)
+            ≡ changing r [] (withRows (left counters) (left flags) mem)) ⌝ }
+    {
+        match check_rows(shape, counters.len(), flags.len()) {
+            Checked::Refused(number) => refused(self, number),
+            Checked::Taken(sizes) => {
+                let columns = sizes.columns;
+                let checks = sizes.checks;
+                reset_rows(counters, flags);
+                let matrix = matrix_of(shape, checks);
+                done(Cycle::first(shape, &matrix[..columns]))
+            }
+        }
+    }
+
+    // Step: makes the next lookup of the schedule and counts its matches; after the last one the record is
+    // complete.
+    pub fn step(
+        self,
+        shape: Shape,
+        cells: &[u8],
+        counters: &mut [u8],
+        flags: &mut [u8],
+        matches: &mut [u8],
+    ) -> Changed
+        ensures { λ r. ⌜ ((mem : Memory) → stepCall shape (stateOf (withAll (was cells) (was counters) (was flags) mem) self) (was matches)
+            ≡ changing r (left matches) (withAll (was cells) (left counters) (left flags) mem)) ⌝ }
+    {
+        let mut matrix = [0u8; 255];
+        match check_step(
+            self,
+            shape,
+            cells.len(),
+            counters.len(),
+            flags.len(),
+            matches.len(),
+            &mut matrix,
+        ) {
+            Stepping::Refused(number) => refused(self, number),
+            Stepping::At(sizes, standing) => {
+                let columns = sizes.columns;
+                let next = self.advance(shape, sizes, &matrix[..columns], standing);
+                look_and_count(
+                    self,
+                    shape,
+                    columns,
+                    standing,
+                    cells,
+                    counters,
+                    flags,
+                    matches,
+                );
+                done(next)
+            }
+        }
+    }
+}

@@ -1,0 +1,53 @@
+-- `cycle_passes::rows::count_rows` meets its contract: counters of which the largest is below ρ are all below it. Assumes nothing.
+use native.Mathlib.Omega.{arith}
+use borrow.Author.Needs.{needs}
+use Rattle.cycle_passes.proofs.rows.count_rows.Statement.{statement}
+use Rattle.cycle_passes.proofs.rows.count_rows.Tie as tie
+
+-- the place where the largest counter is known, from that where the counters are below ρ, and the call's
+abbrev known : tie.After-count-below-arg → tie.After-largest
+known c = c .before .before .before
+
+abbrev begun : tie.After-largest → tie.Start
+begun c = c .before .before .before .before
+
+largest-requires : tie.Need-largest-requires
+largest-requires c κs = search needs
+
+wide-requires : tie.Need-wide-requires
+wide-requires c κs = search needs
+
+cast-count-below : tie.Need-cast-count-below
+cast-count-below c = search needs
+
+count-below-requires : tie.Need-count-below-requires
+count-below-requires c κs = (omega arith, λ i h. (omega (arith, known c .largest .ensures i h), begun (known c) .pre .2 i h))
+
+same-length : tie.Need-same-length
+same-length c = search needs
+
+returns : tie.Need-returns
+returns c = search needs
+
+count-any-requires : tie.Need-count-any-requires
+count-any-requires c κs = search needs
+
+same-length-2 : tie.Need-same-length-2
+same-length-2 c = search needs
+
+returns-2 : tie.Need-returns-2
+returns-2 c = search needs
+
+pub count-rows-spec : {M : Type 1} → statement M
+count-rows-spec =
+    tie.close
+    (tie.spec
+    largest-requires
+    wide-requires
+    cast-count-below
+    count-below-requires
+    same-length
+    returns
+    count-any-requires
+    same-length-2
+    returns-2)

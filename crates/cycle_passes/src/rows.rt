@@ -1,0 +1,113 @@
+// The passes of a step over the rows.
+use acam::compare::answers;
+use shape::byte::fill;
+use shape::byte::wide;
+ghost use mathlib.Core.Path.{_≡_};
+ghost use Prim.Native.Nat.{ℕ, _*_, _≤_, _<_};
+ghost use lib.ListN.{length, getD, replicate};
+ghost use Rattle.shape.specs.Lent.{was, left};
+ghost use Rattle.cycle_passes.specs.Passes.{columnMatches, countedBytes, flaggedBytes};
+
+// The match byte of every row for the vector with the input in one column and 0 elsewhere: that column alone
+// can say no.
+pub fn match_column(cells: &[u8], columns: usize, column: usize, input: u8, matches: &mut [u8])
+    requires { ⌜ (column < columns) × (length (now matches) * columns ≤ length (now cells)) ⌝ }
+    ensures { λ _. ⌜ left matches ≡ columnMatches columns column input (was cells) (length (was matches)) ⌝ }
+{
+    let mut at = column;
+    let mut i: usize = 0;
+    while i < matches.len() {
+        if answers(input, cells[at]) {
+            matches[i] = 1;
+        } else {
+            matches[i] = 0;
+        }
+        at += columns;
+        i += 1;
+    }
+}
+
+// The largest of the bytes, 0 where there is none.
+fn largest(bytes: &[u8]) -> u8
+    ensures { λ r. ⌜ ((i : ℕ) → i < length (was bytes) → getD (was bytes) i 0 ≤ r) ⌝ }
+{
+    let mut most: u8 = 0;
+    let mut i: usize = 0;
+    while i < bytes.len() {
+        let byte = bytes[i];
+        if most < byte {
+            most = byte;
+        }
+        i += 1;
+    }
+    most
+}
+
+// Counters below ρ, as accepted steps leave them, need no remainder.
+fn count_below(counters: &mut [u8], matches: &[u8], radix: u8)
+    requires { ⌜ (length (now matches) ≡ length (now counters))
+        × ((i : ℕ) → i < length (now counters) → (getD (now counters) i 0 < radix) × (getD (now matches) i 0 ≤ 1)) ⌝ }
+    ensures { λ _. ⌜ left counters ≡ countedBytes radix (was counters) (was matches) ⌝ }
+{
+    let mut i: usize = 0;
+    while i < counters.len() {
+        let sum = counters[i] + matches[i];
+        if sum == radix {
+            counters[i] = 0;
+        } else {
+            counters[i] = sum;
+        }
+        i += 1;
+    }
+}
+
+// Any bytes count by their remainders.
+fn count_any(counters: &mut [u8], matches: &[u8], radix: usize)
+    requires { ⌜ (length (now matches) ≡ length (now counters)) × (0 < radix) × (radix ≤ 255) ⌝ }
+    ensures { λ _. ⌜ left counters ≡ countedBytes radix (was counters) (was matches) ⌝ }
+{
+    let mut i: usize = 0;
+    while i < counters.len() {
+        counters[i] = ((wide(counters[i]) + wide(matches[i])) % radix) as u8;
+        i += 1;
+    }
+}
+
+// Adds each match byte to its row's counter mod ρ.
+pub fn count_rows(counters: &mut [u8], matches: &[u8], radix: usize)
+    requires { ⌜ (length (now matches) ≡ length (now counters)) × ((0 < radix) × (radix ≤ 255))
+        × ((i : ℕ) → i < length (now counters) → getD (now matches) i 0 ≤ 1) ⌝ }
+    ensures { λ _. ⌜ left counters ≡ countedBytes radix (was counters) (was matches) ⌝ }
+{
+    if wide(largest(counters)) < radix {
+        count_below(counters, matches, radix as u8);
+        return;
+    }
+    count_any(counters, matches, radix);
+}
+
+// Flags the rows whose counter isn't 0; no flag falls back.
+pub fn flag_rows(counters: &[u8], flags: &mut [u8])
+    requires { ⌜ length (now counters) ≡ length (now flags) ⌝ }
+    ensures { λ _. ⌜ left flags ≡ flaggedBytes (was counters) (was flags) ⌝ }
+{
+    let mut i: usize = 0;
+    while i < flags.len() {
+        // a store in both cases, so that the loop can be compiled to vector code
+        if counters[i] == 0 {
+            flags[i] = flags[i];
+        } else {
+            flags[i] = 1;
+        }
+        i += 1;
+    }
+}
+
+// Counters and flags where a cycle begins: all 0.
+pub fn reset_rows(counters: &mut [u8], flags: &mut [u8])
+    ensures counted { λ _. ⌜ left counters ≡ replicate (length (was counters)) 0 ⌝ }
+    ensures flagged { λ _. ⌜ left flags ≡ replicate (length (was flags)) 0 ⌝ }
+{
+    fill(counters, 0);
+    fill(flags, 0);
+}

@@ -1,0 +1,59 @@
+// The numbers of a place in the schedule: spans, factors, and the lookups before it.
+use super::columns::Survey;
+ghost use mathlib.Core.Path.{_≡_};
+ghost use mathlib.Core.Logic.{_≢_};
+ghost use mathlib.Core.Bool.{not, cond, _&&_};
+ghost use Prim.Native.Nat.{_+_, _-_, _*_, _/_, _%_, _^_, _≤_, _<_};
+ghost use lib.Dec.{eqb, leb, ltb};
+
+// a × ρ^e
+pub fn scale(number: usize, radix: usize, exponent: usize) -> usize
+    requires { ⌜ (0 < radix) × (number * radix ^ exponent ≤ 256) ⌝ }
+    ensures { λ r. ⌜ r ≡ number * radix ^ exponent ⌝ }
+{
+    let mut product = number;
+    let mut e: usize = 0;
+    while e < exponent {
+        product = product * radix;
+        e += 1;
+    }
+    product
+}
+
+// Whether a factor is one of those of a digit: from 1 below q / ρ^s, and not divided by ρ.
+pub fn is_factor(factor: usize, span: usize, radix: usize) -> bool
+    requires { ⌜ 0 < radix ⌝ }
+    ensures { λ r. ⌜ r ≡ leb 1 factor && ltb factor span && not (eqb (factor % radix) 0) ⌝ }
+{
+    if factor == 0 {
+        return false;
+    }
+    if span <= factor {
+        return false;
+    }
+    factor % radix != 0
+}
+
+// The factor after one that ρ does not divide.
+pub fn next_factor(factor: usize, radix: usize) -> usize
+    requires { ⌜ (factor < 256) × (0 < radix) ⌝ }
+    ensures { λ r. ⌜ r ≡ cond (eqb ((factor + 1) % radix) 0) (factor + 2) (factor + 1) ⌝ }
+{
+    if factor % radix == radix - 1 {
+        return factor + 2;
+    }
+    factor + 1
+}
+
+// How many lookups of the schedule come before a place, where next is q / ρ^(s+1).
+pub fn index_of(levels: usize, radix: usize, factor: usize, next: usize, survey: Survey) -> usize
+    requires { ⌜ ((1 ≤ levels) × (levels ≤ 256)) × (0 < radix) × ((factor < 256) × (factor % radix ≢ 0))
+        × ((0 < next) × (next * radix ≤ 256)) × ((survey .before ≤ 2040) × (survey .size ≤ 255) × (survey .rank ≤ 255)) ⌝ }
+    ensures { λ r. ⌜ r ≡ (levels - 1) * survey .before + survey .size * (next - 1)
+        + survey .rank * (next * radix - next) + (factor - 1 - (factor - 1) / radix) ⌝ }
+{
+    (levels - 1) * survey.before
+        + survey.size * (next - 1)
+        + survey.rank * (next * radix - next)
+        + (factor - 1 - factor / radix)
+}

@@ -1,0 +1,12 @@
+// The place of a lookup in the schedule, as a step works it out: passes over the columns, and the numbers of the
+// place.
+pub mod columns;
+pub mod factors;
+
+// The place of a lookup of the schedule: its check row ℓ, digit s, column j and factor a.
+pub struct Place {
+    pub check: usize,
+    pub digit: usize,
+    pub column: usize,
+    pub factor: usize,
+}

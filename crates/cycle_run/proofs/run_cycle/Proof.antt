@@ -1,0 +1,158 @@
+-- `cycle_run::run_cycle` meets its contract: `check_matches` asks, `start` starts the cycle, and `run_open` makes its steps. Assumes nothing.
+use mathlib.Core.Path.{_≡_, sym, _∙_, ap, subst}
+use mathlib.Core.List.{List}
+use lib.Dec.{lit<}
+use lib.ListN.{length, replicate}
+use borrow.Author.Needs.{needs}
+use borrow.Author.Tests.{eqb-true}
+use Rattle.parity.specs.Matrix.{lookups}
+use Rattle.parity.specs.Questions.{Question, firstNo, Taken}
+use Rattle.parity.proofs.Taken.{first-yes}
+use Rattle.shape.specs.Answers.{accepted, giving}
+use Rattle.shape.proofs.Refusals.{told, fails, passes}
+use Rattle.shape.proofs.Calling.{call-done}
+use Rattle.array_memory.specs.Memory.{Memory, withCells, withAll, noMemory, Sized}
+use Rattle.array_memory.proofs.Asked.{MemoryTaken, memory-taken}
+use Rattle.cycle.specs.Calls.{State, stateOf, stepArguments, started}
+use Rattle.cycle.specs.Run.{start, step, after, runFrom}
+use Rattle.cycle.specs.Methods.{changing}
+use Rattle.cycle.proofs.Steps.{started-sized, start-state}
+use Rattle.cycle.proofs.Given.{gives-refusal}
+use Rattle.cycle_run.specs.Cycles.{cycleQuestions, lastMatches, cycleCall}
+use Rattle.cycle_run.proofs.run_cycle.Statement.{statement}
+use Rattle.cycle_run.proofs.run_cycle.Tie as tie
+
+-- the memory that is lent, whatever else is in it
+abbrev lent : tie.Start → Memory → Memory
+lent c mem = withAll (c .args .cells .now) (c .args .counters .now) (c .args .flags .now) mem
+
+abbrev questions : tie.Start → List Question
+questions c = cycleQuestions (c .args .shape) (lent c noMemory) (c .args .matches .now)
+
+-- the places of the call, of its start and of its steps, each from one that follows
+abbrev begun : tie.After-check-matches → tie.Start
+begun c = c .before .before .before .before .before
+
+abbrev passed : tie.After-start → tie.After-enum-told
+passed c = c .before .before .before
+
+abbrev opened : tie.After-run-open-arg3 → tie.After-start
+opened c = c .before .before .before .before .before .before .before
+
+abbrev ran : tie.After-done → tie.After-run-open
+ran c = c .before .before .before .before .before .before .before
+
+-- what is known where the questions are passed
+module _ (c : tie.After-enum-told) where
+  abbrev entered : tie.Start
+  entered = begun (c .before .before)
+
+  none : firstNo (questions entered) ≡ 0
+  none = passes (questions entered) (entered .args .shape) _ (told (c .before .before .check-matches .ensures) (c .enum-told .given .1)) .none
+
+  -- the memory, then the match bytes
+  parts :
+      let args = entered .args in
+      MemoryTaken (args .shape) (length (args .cells .now)) (length (args .counters .now)) (length (args .flags .now))
+      × (firstNo (stepArguments (args .shape) (args .matches .now)) ≡ 0)
+  parts =
+      let args = entered .args in
+      memory-taken (args .shape) (length (args .cells .now)) (length (args .counters .now)) (length (args .flags .now))
+      (stepArguments (args .shape) (args .matches .now)) none
+
+  taken : Taken (entered .args .shape)
+  taken = parts .0 .rows .taken
+
+  sized : Sized (entered .args .shape) (lent entered noMemory)
+  sized = record { cells = parts .0 .cells; counters = parts .0 .rows .counters; flags = parts .0 .rows .flags }
+
+  matches-sized : length (entered .args .matches .now) ≡ entered .args .shape .rows
+  matches-sized = eqb-true (length (entered .args .matches .now)) (entered .args .shape .rows) (first-yes _ 0 6 (lit< tt) (parts .1) .0)
+
+-- the state that the start leaves
+module _ (c : tie.After-start) where
+  abbrev first : Memory → State
+  first mem = stateOf (withAll (entered (passed c) .args .cells .now) (c .start .last .1 .1 .0) (c .start .last .1 .1 .1 .0) mem) (c .start .result .cycle)
+
+  abbrev given : Memory → State
+  given mem = stateOf (lent (entered (passed c)) mem) (entered (passed c) .args .cycle)
+
+  left : (mem : Memory) → after (entered (passed c) .args .shape) (given mem) start ≡ first mem
+  left mem = ap (λ r. r .state) (c .start .ensures (withCells (entered (passed c) .args .cells .now) mem))
+
+  made : started (entered (passed c) .args .shape) (given noMemory) ≡ first noMemory
+  made = sym (start-state _ (given noMemory) (sized (passed c)) (taken (passed c))) ∙ left noMemory
+
+check-matches-requires : tie.Need-check-matches-requires
+check-matches-requires c κs = search needs
+
+enum-known-number : tie.Need-enum-known-number
+enum-known-number c = search needs
+
+refused-requires : tie.Need-refused-requires
+refused-requires c κs = search needs
+
+enum-told : tie.Need-enum-told
+enum-told c = search needs
+
+start-requires : tie.Need-start-requires
+start-requires c κs = search needs
+
+run-open-requires : tie.Need-run-open-requires
+unfolding started
+run-open-requires c κs =
+    let p = passed (opened c) in
+    let same = made (opened c) in
+    let z = subst (λ st. Sized (entered p .args .shape) (st .memory)) same (started-sized _ (given (opened c) noMemory) (sized p)) in
+    ((taken p, sym (ap (λ st. st .cycle) same)), (z, matches-sized p))
+
+done-requires : tie.Need-done-requires
+done-requires c κs = search needs
+
+returns : tie.Need-returns
+unfolding cycleCall
+returns c =
+    let asked = c .before .before .before .before in
+    let start = begun asked in
+    let number = c .before .before .number .given in
+    λ mem. gives-refusal (questions start) (start .args .matches .now) (lent start mem) (start .args .cycle) _ _ (number .0 .0)
+    (fails (questions start) (start .args .shape) (number .0 .0) (told (asked .check-matches .ensures) (number .1))) (c .refused .ensures)
+
+same-length : tie.Need-same-length
+same-length c = search needs
+
+same-length-2 : tie.Need-same-length-2
+same-length-2 c = search needs
+
+same-length-3 : tie.Need-same-length-3
+same-length-3 c = search needs
+
+returns-2 : tie.Need-returns-2
+unfolding cycleCall lastMatches
+returns-2 c =
+    let begin = opened (ran c .before) in
+    let entry = entered (passed begin) in
+    let s = entry .args .shape in
+    let matches = entry .args .matches .now in
+    let last = ran c .run-open .last .1 .1 .1 in
+    λ mem. call-done (questions entry) matches (given begin mem) _ (none (passed begin))
+    ∙ ap (λ st. giving (accepted 0) (lastMatches s (lent entry mem)) (runFrom s st (replicate (lookups s) (step matches)))) (left begin mem)
+    ∙ ran c .run-open .ensures mem
+    ∙ ap (λ r. changing r (last .1 .1 .0) (withAll (entry .args .cells .now) (last .0) (last .1 .0) mem)) (sym (c .done .ensures))
+
+pub run-cycle-spec : {M : Type 1} → statement M
+run-cycle-spec =
+    tie.close
+    (tie.spec
+    check-matches-requires
+    enum-known-number
+    refused-requires
+    enum-told
+    start-requires
+    run-open-requires
+    done-requires
+    returns
+    same-length
+    same-length-2
+    same-length-3
+    returns-2)

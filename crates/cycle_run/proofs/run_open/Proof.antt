@@ -1,0 +1,100 @@
+-- `cycle_run::run_open` meets its contract: the loop's state is one of the cycle's (WholeCycle.antt). The measure is the lookups to come.
+-- Assumes nothing.
+use mathlib.Core.Path.{_≡_, sym, _∙_}
+use Prim.Native.Nat.{suc, _-_, _<_}
+use native.Mathlib.Omega.{arith}
+use borrow.Author.Needs.{needs}
+use Rattle.parity.specs.Matrix.{lookups}
+use Rattle.array_memory.specs.Memory.{Memory, withAll, noMemory}
+use Rattle.cycle.specs.Calls.{stateOf}
+use Rattle.cycle_run.specs.Cycles.{lastMatches}
+use Rattle.cycle_run.proofs.WholeCycle.{Going, going-start, going-step, going-end}
+use Rattle.cycle_run.proofs.run_open.Statement.{statement}
+use Rattle.cycle_run.proofs.run_open.Tie as tie
+
+abbrev Inv-loop : tie.InvT-loop
+Inv-loop shape cells counters₀ flags₀ matches₀ now₀ counters flags matches now =
+    (mem : Memory)
+    → Going shape (stateOf (withAll cells counters₀ flags₀ mem) now₀) matches₀ (now .count) (stateOf (withAll cells counters flags mem) now) matches
+
+abbrev μ-loop : tie.MeasureT-loop
+μ-loop shape cells counters₀ flags₀ matches₀ now₀ counters flags matches now = lookups shape - now .count
+
+-- the places of the call, of a turn's begin and of its step, each from one that follows
+abbrev begun : tie.At-loop Inv-loop μ-loop → tie.Start Inv-loop μ-loop
+begun c = c .before .before .before .before .before
+
+abbrev looped : tie.After-step Inv-loop μ-loop → tie.At-loop Inv-loop μ-loop
+looped c = c .before .before .before .before .before .before
+
+abbrev opened : tie.After-step Inv-loop μ-loop → tie.Then1 Inv-loop μ-loop
+opened c = c .before .before .before .before
+
+abbrev stepped : tie.After-now Inv-loop μ-loop → tie.After-step Inv-loop μ-loop
+stepped c = c .before .before .before .before .before .before .before
+
+loop-holds : tie.Need-loop-holds Inv-loop μ-loop
+loop-holds c =
+    let start = c .before .before .before .before in
+    λ mem. going-start _ (start .pre .0 .0) _ _ (start .pre .1 .1) (start .pre .1 .0) (start .pre .0 .1)
+
+is-open-requires : tie.Need-is-open-requires Inv-loop μ-loop
+is-open-requires c κs = search needs
+
+step-requires : tie.Need-step-requires Inv-loop μ-loop
+step-requires c κs = search needs
+
+-- a turn makes the next state of the cycle
+turn :
+    (c : tie.After-step Inv-loop μ-loop)
+    → let loop = looped c in
+    let args = begun loop .args in
+    let now = c .step .result .cycle in
+    (mem : Memory)
+    → Going (args .shape) (stateOf (withAll (args .cells .now) (args .counters .now) (args .flags .now) mem) (args .cycle)) (args .matches .now) (now .count)
+    (stateOf (withAll (args .cells .now) (c .step .last .1 .1 .1 .0) (c .step .last .1 .1 .1 .1 .0) mem) now) (c .step .last .1 .1 .1 .1 .1 .0)
+    × (now .count ≡ suc (loop .loop .now .count)) × (loop .loop .now .count < lookups (args .shape))
+turn c =
+    let loop = looped c in
+    let start = begun loop in
+    λ mem. going-step (start .args .shape) (start .pre .0 .0) _ _ (start .pre .1 .1) _ _ _ (loop .loop .inv mem)
+    (sym (opened c .before .is-open .ensures) ∙ opened c .if1 .taken) _ (c .step .ensures mem)
+
+loop-less : tie.Need-loop-less Inv-loop μ-loop
+loop-less c = let next = turn (stepped c) noMemory in omega arith
+
+loop-again : tie.Need-loop-again Inv-loop μ-loop
+loop-again c = λ mem. turn (stepped c) mem .0
+
+same-length : tie.Need-same-length Inv-loop μ-loop
+same-length c = let loop = c .before .before in loop .loop .inv noMemory .sized .counters ∙ sym (begun loop .pre .1 .0 .counters)
+
+same-length-2 : tie.Need-same-length-2 Inv-loop μ-loop
+same-length-2 c = let loop = c .before .before in loop .loop .inv noMemory .sized .flags ∙ sym (begun loop .pre .1 .0 .flags)
+
+same-length-3 : tie.Need-same-length-3 Inv-loop μ-loop
+same-length-3 c = let loop = c .before .before in loop .loop .inv noMemory .buffer ∙ sym (begun loop .pre .1 .1)
+
+returns : tie.Need-returns Inv-loop μ-loop
+unfolding lastMatches
+returns c =
+    let loop = c .before .before in
+    let start = begun loop in
+    λ mem. going-end (start .args .shape) (start .pre .0 .0) _ _ (start .pre .1 .1) _ _ _ (loop .loop .inv mem)
+    (sym (c .before .is-open .ensures) ∙ c .if1 .left)
+
+pub run-open-spec : {M : Type 1} → statement M
+run-open-spec =
+    tie.close
+    (tie.spec
+    Inv-loop
+    μ-loop
+    loop-holds
+    is-open-requires
+    step-requires
+    loop-less
+    loop-again
+    same-length
+    same-length-2
+    same-length-3
+    returns)

@@ -1,0 +1,29 @@
+-- A whole cycle as one call.
+use mathlib.Core.List.{List, [], _∷_}
+use Prim.Native.Nat.{ℕ, _-_}
+use lib.ListN.{replicate}
+use Rattle.parity.specs.Shape.{columns}
+use Rattle.parity.specs.Matrix.{lookups}
+use Rattle.parity.specs.Questions.{Question, callQuestions}
+use Rattle.parity.specs.declared.Shape.{Shape}
+use Rattle.shape.specs.Answers.{Result, accepted, giving, calling}
+use Rattle.schedule.specs.Schedule.{testVector}
+use Rattle.array_memory.specs.Geometry.{matchBytes}
+use Rattle.array_memory.specs.Memory.{Memory}
+use Rattle.cycle.specs.Record.{entryAt}
+use Rattle.cycle.specs.Calls.{State, lentQuestions}
+use Rattle.cycle.specs.Run.{start, step, runFrom}
+
+-- 6 on the memory and the match bytes; not 9, since the call starts a cycle
+abbrev pub cycleQuestions : Shape → Memory → List ℕ → List Question
+cycleQuestions s mem matches = callQuestions s [] (lentQuestions s mem matches) []
+
+-- the match bytes of a cycle's last lookup
+unfoldable pub lastMatches : Shape → Memory → List ℕ
+lastMatches s mem = matchBytes (s .rows) (columns s) (testVector s (entryAt s (lookups s - 1))) (mem .cells)
+
+-- a start and all the steps of a cycle; the match bytes are those of its last lookup
+unfoldable pub cycleCall : Shape → State → List ℕ → Result State
+cycleCall s st matches =
+    calling (cycleQuestions s (st .memory) matches) matches st
+    (giving (accepted 0) (lastMatches s (st .memory)) (runFrom s st (start ∷ replicate (lookups s) (step matches))))

@@ -1,0 +1,2 @@
+-- A whole cycle as one call.
+pub mod Cycles

@@ -1,0 +1,70 @@
+// One whole detection cycle as one call.
+use array_memory::memory::check_matches;
+use cycle::Changed;
+use cycle::Cycle;
+use cycle::calls::done;
+use cycle::calls::refused;
+use parity::Shape;
+use shape::sizes::Checked;
+ghost use mathlib.Core.Path.{_≡_};
+ghost use lib.ListN.{length, replicate};
+ghost use Rattle.parity.specs.Matrix.{lookups};
+ghost use Rattle.parity.specs.Questions.{Taken};
+ghost use Rattle.shape.specs.Answers.{accepted, giving};
+ghost use Rattle.shape.specs.Lent.{was, left};
+ghost use Rattle.array_memory.specs.Memory.{Memory, withAll, noMemory, Sized};
+ghost use Rattle.cycle.specs.Record.{cycleAt};
+ghost use Rattle.cycle.specs.Calls.{stateOf};
+ghost use Rattle.cycle.specs.Run.{step, runFrom};
+ghost use Rattle.cycle.specs.Methods.{changing, doneWith};
+ghost use Rattle.cycle_run.specs.Cycles.{lastMatches, cycleCall};
+
+// The steps of a cycle that is just started.
+fn run_open(
+    cycle: Cycle,
+    shape: Shape,
+    cells: &[u8],
+    counters: &mut [u8],
+    flags: &mut [u8],
+    matches: &mut [u8],
+) -> Cycle
+    requires { ⌜ Taken shape × (cycle ≡ cycleAt shape 0) ⌝ }
+    requires { ⌜ Sized shape (withAll (now cells) (now counters) (now flags) noMemory) × (length (now matches) ≡ shape .rows) ⌝ }
+    ensures { λ r. ⌜ ((mem : Memory) → let st = stateOf (withAll (was cells) (was counters) (was flags) mem) cycle in
+        giving (accepted 0) (lastMatches shape (st .memory)) (runFrom shape st (replicate (lookups shape) (step (was matches))))
+        ≡ changing (doneWith r) (left matches) (withAll (was cells) (left counters) (left flags) mem)) ⌝ }
+{
+    let mut now = cycle;
+    while now.is_open() {
+        let stepped = now.step(shape, cells, counters, flags, matches);
+        now = stepped.cycle;
+    }
+    now
+}
+
+// One whole cycle: a start and all its steps.
+pub fn run_cycle(
+    cycle: Cycle,
+    shape: Shape,
+    cells: &[u8],
+    counters: &mut [u8],
+    flags: &mut [u8],
+    matches: &mut [u8],
+) -> Changed
+    ensures { λ r. ⌜ ((mem : Memory) → cycleCall shape (stateOf (withAll (was cells) (was counters) (was flags) mem) cycle) (was matches)
+        ≡ changing r (left matches) (withAll (was cells) (left counters) (left flags) mem)) ⌝ }
+{
+    match check_matches(
+        shape,
+        cells.len(),
+        counters.len(),
+        flags.len(),
+        matches.len(),
+    ) {
+        Checked::Refused(number) => refused(cycle, number),
+        Checked::Taken(_) => {
+            let started = cycle.start(shape, counters, flags);
+            done(run_open(started.cycle, shape, cells, counters, flags, matches))
+        }
+    }
+}

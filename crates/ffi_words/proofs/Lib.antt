@@ -1,0 +1,2 @@
+-- The theorem on the words.
+pub mod ReadBack

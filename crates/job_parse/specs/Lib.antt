@@ -1,0 +1,3 @@
+-- The fields of a job, and its questions.
+pub mod Parse
+pub mod Framed

@@ -1,4 +1,0 @@
--- The proofs of this crate's functions, each in the folder of its function, and the laws on refusals and on a loop's search that the
--- crates above cite.
-pub mod Refusals
-pub mod Search

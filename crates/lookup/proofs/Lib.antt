@@ -1,2 +1,0 @@
--- The law that several functions' proofs cite.
-pub mod RowBytes

@@ -1,3 +1,0 @@
-// Lookups on an array: the match lines of all rows, and the first row that matches.
-pub mod first;
-pub mod task;

@@ -1,2 +1,0 @@
--- The fields of a job, and its questions.
-pub mod Parse

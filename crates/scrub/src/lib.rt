@@ -1,4 +1,0 @@
-// The detection cycle of the sorting head's array: its record, and the calls that need it.
-pub mod calls;
-pub mod cycle;
-mod place;

@@ -1,0 +1,23 @@
+-- A call by the number of its first no: where there is one, that refusal with all as it was; where there is none, what the call does.
+-- Assumes nothing.
+use mathlib.Core.Path.{_≡_, refl, ap, _∙_}
+use mathlib.Core.List.{List}
+use Prim.Native.Nat.{ℕ, zero, suc, _<_}
+use native.Mathlib.Omega.{arith}
+use Rattle.parity.specs.Questions.{Question, firstNo, ifTaken}
+use Rattle.shape.specs.Answers.{Result, refused, giving, calling}
+
+-- of two things the one for a no
+pub if-no : {A : Type 0} (n : ℕ) → 0 < n → (new old : A) → ifTaken n new old ≡ old
+if-no zero h new old = absurd (omega arith)
+if-no (suc n) h new old = refl
+
+module _ {S : Type 0} (questions : List Question) (bytes : List ℕ) (state : S) (done : Result S) where
+  pub call-refused : (n : ℕ) → (firstNo questions ≡ n) × (0 < n) → calling questions bytes state done ≡ giving (refused 0 n) bytes state
+  unfolding calling
+  call-refused n fails =
+      ap (λ n. ifTaken n done (giving (refused 0 n) bytes state)) (fails .0) ∙ if-no n (fails .1) done (giving (refused 0 n) bytes state)
+
+  pub call-done : firstNo questions ≡ 0 → calling questions bytes state done ≡ done
+  unfolding calling
+  call-done none = ap (λ n. ifTaken n done (giving (refused 0 n) bytes state)) none

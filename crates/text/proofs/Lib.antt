@@ -1,3 +1,0 @@
--- The laws that the proofs of the functions, here and in the crate above, cite.
-pub mod Decimal
-pub mod Written

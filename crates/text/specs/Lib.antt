@@ -1,2 +1,0 @@
--- What a job prints.
-pub mod Text

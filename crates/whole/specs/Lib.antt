@@ -1,2 +1,0 @@
--- A whole cycle as one call.
-pub mod Whole
