@@ -3,10 +3,11 @@
 use super::Changed;
 use super::Cycle;
 use super::passes::look_and_count;
-use super::questions::Stepping;
-use super::questions::check_step;
+use super::place::Located;
+use super::place::locate;
 use acam::matrix::matrix_of;
 use array::change::write_row;
+use array_memory::memory::check_matches;
 use array_memory::memory::check_memory;
 use array_memory::memory::check_rows;
 use array_memory::questions::check_program;
@@ -15,10 +16,14 @@ use parity::Shape;
 use shape::answer::Outcome;
 use shape::byte::fill;
 use shape::sizes::Checked;
+use shape::sizes::Sizes;
 ghost use mathlib.Core.Path.{_≡_};
 ghost use mathlib.Core.List.{[]};
+ghost use lib.ListN.{length};
+ghost use Rattle.parity.specs.Questions.{firstNo, callQuestions};
 ghost use Rattle.shape.specs.Lent.{was, left};
-ghost use Rattle.array_memory.specs.Memory.{Memory, withCells, withRows, withAll};
+ghost use Rattle.shape.specs.Shapes.{sizesOf};
+ghost use Rattle.array_memory.specs.Memory.{Memory, withCells, withRows, withAll, lookupLengths};
 ghost use Rattle.cycle.specs.Calls.{stateOf, clearCall, programCall, startCall, stepCall};
 ghost use Rattle.cycle.specs.Methods.{changing, refusedWith, doneWith};
 
@@ -107,20 +112,43 @@ impl Cycle {
         ensures { λ r. ⌜ ((mem : Memory) → stepCall shape (stateOf (withAll (was cells) (was counters) (was flags) mem) self) (was matches)
             ≡ changing r (left matches) (withAll (was cells) (left counters) (left flags) mem)) ⌝ }
     {
-        let mut matrix = [0u8; 255];
-        match check_step(
-            self,
+        match check_matches(
             shape,
             cells.len(),
             counters.len(),
             flags.len(),
             matches.len(),
-            &mut matrix,
         ) {
-            Stepping::Refused(number) => refused(self, number),
-            Stepping::At(sizes, standing) => {
-                let columns = sizes.columns;
-                let next = self.advance(shape, sizes, &matrix[..columns], standing);
+            Checked::Refused(number) => refused(self, number),
+            Checked::Taken(sizes) => {
+                self.step_lent(shape, sizes, cells, counters, flags, matches)
+            }
+        }
+    }
+
+    // A step on buffers of their lengths: question 9, and then the lookup. The check matrix is made once for both.
+    fn step_lent(
+        self,
+        shape: Shape,
+        sizes: Sizes,
+        cells: &[u8],
+        counters: &mut [u8],
+        flags: &mut [u8],
+        matches: &mut [u8],
+    ) -> Changed
+        requires { ⌜ (firstNo (callQuestions shape [] (lookupLengths shape (length (now cells)) (length (now counters)) (length (now flags))
+            (length (now matches))) []) ≡ 0) × (sizes ≡ sizesOf shape) ⌝ }
+        ensures { λ r. ⌜ ((mem : Memory) → stepCall shape (stateOf (withAll (was cells) (was counters) (was flags) mem) self) (was matches)
+            ≡ changing r (left matches) (withAll (was cells) (left counters) (left flags) mem)) ⌝ }
+    {
+        let columns = sizes.columns;
+        let checks = sizes.checks;
+        let matrix = matrix_of(shape, checks);
+        let part = &matrix[..columns];
+        match locate(self, shape, sizes, part) {
+            Located::Elsewhere => refused(self, 9),
+            Located::At(standing) => {
+                let next = self.advance(shape, sizes, part, standing);
                 look_and_count(
                     self,
                     shape,

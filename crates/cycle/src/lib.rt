@@ -2,7 +2,6 @@
 pub mod calls;
 mod passes;
 mod place;
-mod questions;
 
 use cycle_place::Place;
 use shape::answer::Outcome;
