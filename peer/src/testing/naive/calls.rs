@@ -6,6 +6,7 @@ use crate::call::{Answer, Call};
 use crate::cycle::{Cycle, Phase};
 use crate::list::Array;
 
+/// The idle record, written out anew: the definitions share the types of the build that they judge, and none of its values.
 const IDLE: Cycle = Cycle {
     phase: Phase::Idle,
     check: 0,
