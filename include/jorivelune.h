@@ -8,7 +8,7 @@
 // - each pointer is valid for the length that is given with it, for reading, and for writing where it is not const,
 //   also where the length is 0;
 // - no two buffers of one call overlap, nor does the record or an answer lie in a buffer;
-// - the record and the pointers for answers (count, found, holds) are writable and aligned.
+// - the record and the pointers for answers (count, found, holds, total, first, read) are writable and aligned.
 #ifndef JORIVELUNE_H
 #define JORIVELUNE_H
 
@@ -43,10 +43,13 @@ enum {
 
 // ---- calls that have the record
 
+// Totals are (m + 63) / 64 bytes: for each block of 64 rows, the last of which may be short, the number of its flagged rows.
+
 uint8_t jorivelune_clear(size_t record[JORIVELUNE_WORDS], struct jorivelune_shape shape,
                          uint8_t *cells, size_t cells_length,
                          uint8_t *counters, size_t counters_length,
-                         uint8_t *flags, size_t flags_length);
+                         uint8_t *flags, size_t flags_length,
+                         uint8_t *totals, size_t totals_length);
 
 uint8_t jorivelune_program(size_t record[JORIVELUNE_WORDS], struct jorivelune_shape shape,
                            uint8_t *cells, size_t cells_length,
@@ -54,12 +57,14 @@ uint8_t jorivelune_program(size_t record[JORIVELUNE_WORDS], struct jorivelune_sh
 
 uint8_t jorivelune_start(size_t record[JORIVELUNE_WORDS], struct jorivelune_shape shape,
                          uint8_t *counters, size_t counters_length,
-                         uint8_t *flags, size_t flags_length);
+                         uint8_t *flags, size_t flags_length,
+                         uint8_t *totals, size_t totals_length);
 
 uint8_t jorivelune_step(size_t record[JORIVELUNE_WORDS], struct jorivelune_shape shape,
                         const uint8_t *cells, size_t cells_length,
                         uint8_t *counters, size_t counters_length,
                         uint8_t *flags, size_t flags_length,
+                        uint8_t *totals, size_t totals_length,
                         uint8_t *matches, size_t matches_length);
 
 // A start and all the steps of a cycle.
@@ -67,7 +72,17 @@ uint8_t jorivelune_run(size_t record[JORIVELUNE_WORDS], struct jorivelune_shape 
                        const uint8_t *cells, size_t cells_length,
                        uint8_t *counters, size_t counters_length,
                        uint8_t *flags, size_t flags_length,
+                       uint8_t *totals, size_t totals_length,
                        uint8_t *matches, size_t matches_length);
+
+// ---- the panel
+
+// The sum of the totals goes to total, the first flagged row to first, m where there is none, and the number of flags that were
+// read for it, one block of them at most, to read; all three are 0 where the call is refused.
+uint8_t jorivelune_panel(struct jorivelune_shape shape,
+                         const uint8_t *flags, size_t flags_length,
+                         const uint8_t *totals, size_t totals_length,
+                         size_t *total, size_t *first, size_t *read);
 
 // ---- calls on the cells alone
 

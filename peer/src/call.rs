@@ -7,6 +7,7 @@
 //! refusals of the call.
 
 use crate::cycle::{self, Cycle};
+use crate::panel::{panel, Panel};
 use crate::shape::{Refusal, Shape};
 use crate::state::{Bytes, State};
 use crate::{array, code};
@@ -85,6 +86,8 @@ calls! {
         /// The match bytes.
         matches: B,
     },
+    /// Tell the panel the total of flagged rows and the first of them.
+    Panel,
     /// Find the first row that matches.
     FirstMatch {
         /// The inputs.
@@ -116,6 +119,7 @@ impl Name {
             Name::Clear | Name::Program | Name::Start | Name::Step | Name::Run => true,
             Name::Drift
             | Name::Lookup
+            | Name::Panel
             | Name::FirstMatch
             | Name::Sound
             | Name::Read
@@ -142,6 +146,7 @@ impl<B> Call<B> {
             Call::Run { matches } => Call::Run {
                 matches: change(matches),
             },
+            Call::Panel => Call::Panel,
             Call::FirstMatch { inputs } => Call::FirstMatch { inputs },
             Call::Sound { row } => Call::Sound { row },
             Call::Read { row, out } => Call::Read {
@@ -155,14 +160,16 @@ impl<B> Call<B> {
     }
 }
 
-/// What a call gave: nothing, a count, a row or none, yes or no; or the number
-/// of the first question that failed.
+/// What a call gave: nothing, a count, what the panel is told, a row or none,
+/// yes or no; or the number of the first question that failed.
 #[derive(Clone, Copy, Debug, PartialEq, Eq)]
 pub enum Answer {
     /// The call was taken and gives nothing.
     Done,
     /// The number of matches.
     Count(usize),
+    /// What the panel is told.
+    Panel(Panel),
     /// The first row that matches.
     Row(Option<usize>),
     /// Whether the row is sound.
@@ -216,6 +223,7 @@ pub fn make<S: Bytes, B: Bytes>(
         Call::Lookup { inputs, matches } => {
             Answer::of(array::lookup(shape, cells, inputs, matches), Answer::Count)
         }
+        Call::Panel => Answer::of(panel(shape, &state.flags, &state.totals), Answer::Panel),
         Call::FirstMatch { inputs } => {
             Answer::of(array::first_match(shape, cells, inputs), Answer::Row)
         }

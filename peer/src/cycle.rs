@@ -7,6 +7,7 @@
 
 use crate::comparator::answers;
 use crate::matrix::ones_in_check;
+use crate::panel::count_flags;
 use crate::shape::{Layout, Refusal, Shape};
 use crate::state::State;
 
@@ -174,14 +175,15 @@ fn place_in_support(layout: &Layout, check: usize, column: usize) -> Option<usiz
     }
 }
 
-/// Starts a cycle: counters and flags 0, record open with count 0. The cells
-/// are not its matter, and question 6 is not asked of them.
+/// Starts a cycle: counters, flags and totals 0, record open with count 0. The
+/// cells are not its matter, and question 6 is not asked of them.
 pub fn start(shape: Shape, state: State<&mut [u8]>, cycle: Cycle) -> (Cycle, Result<(), Refusal>) {
     match ask_start(shape, &state) {
         Err(refusal) => (cycle, Err(refusal)),
         Ok(layout) => {
             state.counters.fill(0);
             state.flags.fill(0);
+            state.totals.fill(0);
             (Cycle::open(&layout), Ok(()))
         }
     }
@@ -191,13 +193,14 @@ fn ask_start(shape: Shape, state: &State<&mut [u8]>) -> Result<Layout, Refusal> 
     let layout = shape.layout()?;
     layout.ask_length(state.counters, layout.rows())?;
     layout.ask_length(state.flags, layout.rows())?;
+    layout.ask_length(state.totals, layout.blocks())?;
     Ok(layout)
 }
 
 /// Makes the next lookup of the schedule: writes the match bytes, adds each to
 /// its row's counter mod the radix, and moves the record on. At the end of a
-/// digit the rows whose counter is not 0 are flagged; at the end of a check the
-/// counters return to 0.
+/// digit the rows whose counter is not 0 are flagged, and the flagged rows of
+/// each block counted; at the end of a check the counters return to 0.
 pub fn step(
     shape: Shape,
     state: State<&mut [u8]>,
@@ -212,11 +215,13 @@ pub fn step(
         cells,
         counters,
         flags,
+        totals,
     } = state;
     look_up(&layout, &cycle, cells, matches);
     add_matches(&layout, counters, matches);
     if cycle.ends_digit(&layout) {
         raise_flags(counters, flags);
+        count_flags(flags, totals);
     }
     if cycle.ends_check(&layout) {
         counters.fill(0);

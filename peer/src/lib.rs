@@ -1,8 +1,9 @@
 //! A threshold array with check columns, its lookups and its detection cycle.
 //!
 //! The array keeps its state in memory lent by the caller: cells (row after
-//! row), one counter and one flag byte per row; a cycle record stands beside
-//! it. Every call asks its questions first; a refused call changes nothing.
+//! row), one counter and one flag byte per row, and one byte per block of 64
+//! rows, the total of its flagged ones; a cycle record stands beside it. Every
+//! call asks its questions first; a refused call changes nothing.
 //!
 //! From the bottom up:
 //! - [`shape`]: the shape of an array, questions 1 to 5, the refusals;
@@ -10,6 +11,7 @@
 //! - [`code`]: the encoder of the check cells and the codeword test;
 //! - [`comparator`]: the rule of a match line;
 //! - [`state`]: the lent state;
+//! - [`mod@panel`]: the totals of flagged rows, and the panel call;
 //! - [`cycle`]: the cycle record, start, step, and one whole cycle;
 //! - [`mod@array`]: the other calls on an array;
 //! - [`call`]: all calls as one enum, and the making of one;
@@ -28,6 +30,7 @@ pub mod cycle;
 pub mod job;
 pub mod list;
 pub mod matrix;
+pub mod panel;
 pub mod shape;
 pub mod state;
 pub mod testing;
@@ -39,5 +42,6 @@ pub use comparator::match_byte;
 pub use cycle::{run, start, step, Cycle, Phase};
 pub use job::job;
 pub use list::Array;
+pub use panel::{panel, Panel};
 pub use shape::{Layout, Refusal, Shape};
 pub use state::State;

@@ -88,6 +88,8 @@ impl Shape {
     pub const MAX_ERRORS: usize = 3;
     /// The largest number of rows.
     pub const MAX_ROWS: usize = 4096;
+    /// The rows of a block; the last block of an array may have fewer.
+    pub const BLOCK: usize = 64;
 
     /// The shape with ρ, b, τ, k and m, in this order.
     pub const fn new(
@@ -205,6 +207,11 @@ impl Layout {
     /// m × n, the number of cells.
     pub fn cells(&self) -> usize {
         self.shape.rows * self.columns()
+    }
+
+    /// ⌈m / 64⌉, the number of blocks of rows.
+    pub fn blocks(&self) -> usize {
+        self.shape.rows.div_ceil(Shape::BLOCK)
     }
 
     /// The rule columns of the parity-check matrix, in order.

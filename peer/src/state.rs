@@ -5,7 +5,7 @@ use std::ops::DerefMut;
 use crate::shape::{Layout, Refusal, Shape};
 
 /// How many buffers a state has.
-const BUFFERS: usize = 3;
+const BUFFERS: usize = 4;
 
 /// A buffer of any kind whose bytes can be read and written.
 pub trait Bytes: DerefMut<Target = [u8]> {}
@@ -23,6 +23,8 @@ pub struct State<B> {
     pub counters: B,
     /// One flag per row.
     pub flags: B,
+    /// One total per block: the number of its flagged rows.
+    pub totals: B,
 }
 
 impl State<&'static str> {
@@ -31,6 +33,7 @@ impl State<&'static str> {
         cells: "cells",
         counters: "counters",
         flags: "flags",
+        totals: "totals",
     };
 }
 
@@ -41,6 +44,7 @@ impl State<usize> {
             cells: layout.cells(),
             counters: layout.rows(),
             flags: layout.rows(),
+            totals: layout.blocks(),
         }
     }
 }
@@ -58,7 +62,7 @@ impl<B> State<B> {
 
     /// The buffers in order.
     pub fn into_array(self) -> [B; BUFFERS] {
-        [self.cells, self.counters, self.flags]
+        [self.cells, self.counters, self.flags, self.totals]
     }
 
     /// The buffers to be looked at.
@@ -67,6 +71,7 @@ impl<B> State<B> {
             cells: &self.cells,
             counters: &self.counters,
             flags: &self.flags,
+            totals: &self.totals,
         }
     }
 
@@ -76,6 +81,7 @@ impl<B> State<B> {
             cells: &mut self.cells,
             counters: &mut self.counters,
             flags: &mut self.flags,
+            totals: &mut self.totals,
         }
     }
 
@@ -85,6 +91,7 @@ impl<B> State<B> {
             cells: change(self.cells),
             counters: change(self.counters),
             flags: change(self.flags),
+            totals: change(self.totals),
         }
     }
 }

@@ -4,6 +4,7 @@
 use peer::testing::draw::{self, some_bytes, some_length, some_number, Draw};
 use peer::testing::lent::Own;
 use peer::testing::naive::calls::make;
+use peer::testing::naive::panel::blocks;
 use peer::testing::naive::spec::{questions, record, Spec};
 use peer::testing::random::Random;
 use peer::testing::records::forged;
@@ -16,6 +17,7 @@ use peer::{match_byte, Answer, Array, Cycle, Name, Shape, State};
 struct Sizes {
     cells: usize,
     rows: usize,
+    blocks: usize,
     width: usize,
     columns: usize,
     levels: usize,
@@ -28,6 +30,7 @@ impl Sizes {
             Some(spec) => Sizes {
                 cells: spec.cells(),
                 rows: spec.shape.rows,
+                blocks: blocks(spec.shape.rows),
                 width: spec.shape.width,
                 columns: spec.columns(),
                 levels: spec.levels,
@@ -35,6 +38,7 @@ impl Sizes {
             None => Sizes {
                 cells: 12,
                 rows: 3,
+                blocks: 1,
                 width: 3,
                 columns: 4,
                 levels: 8,
@@ -97,7 +101,8 @@ fn drawn(random: &mut Random, shape: Shape) -> (Array, Given) {
     let state = State {
         cells,
         counters: some_bytes(random, sizes.rows),
-        flags: some_bytes(random, sizes.rows),
+        flags: some_marks(random, sizes.rows),
+        totals: some_marks(random, sizes.blocks),
     };
     let array = Array {
         shape,
@@ -137,6 +142,13 @@ fn some_cells(random: &mut Random, sizes: &Sizes) -> Vec<u8> {
     let length = some_length(random, sizes.cells);
     let bound = if random.one_in(2) { sizes.levels } else { 256 };
     random.levels(bound, length)
+}
+
+/// Flags or totals, mostly as many as there are: any bytes, many of them 0.
+fn some_marks(random: &mut Random, wanted: usize) -> Vec<u8> {
+    let length = some_length(random, wanted);
+    let times = random.pick(&[1, 2, 8, 64]);
+    random.sparse(length, times)
 }
 
 /// Mostly n bytes for the encoder, of which the first k are mostly levels.

@@ -3,10 +3,11 @@
 
 use peer::testing::naive::calls::step_with;
 use peer::testing::naive::spec::{questions, record, Spec};
+use peer::testing::panels::foreign;
 use peer::testing::random::Random;
 use peer::testing::records::forged;
 use peer::testing::settings;
-use peer::testing::shapes::{limit_shape, small_shape};
+use peer::testing::shapes::{limit_shape, short_cycle_shape, small_shape, BLOCK_EDGES};
 use peer::{Answer, Array, Cycle, Phase, Shape, State};
 
 const REFUSED: Answer = Answer::Refused(9);
@@ -32,11 +33,11 @@ impl Stepped {
             }
             cells.extend(row);
         }
-        let state = State {
+        let mut state = State {
             cells,
-            counters: random.bytes(rows),
-            flags: random.bytes(rows),
+            ..State::fresh(&spec.shape.layout().unwrap())
         };
+        meddle(random, spec.shape, &mut state);
         Stepped {
             array: Array {
                 shape: spec.shape,
@@ -59,26 +60,29 @@ impl Stepped {
     }
 }
 
+/// Any bytes for counters, flags and totals.
+fn meddle(random: &mut Random, shape: Shape, state: &mut State<Vec<u8>>) {
+    state.counters = random.bytes(shape.rows);
+    (state.flags, state.totals) = foreign(random, &shape.layout().unwrap());
+}
+
 /// Runs a whole cycle both ways and compares all that is lent after each step.
-/// Where `meddle` is set, counters and flags are overwritten now and then.
-fn compare_cycle(random: &mut Random, shape: Shape, meddle: bool) {
+/// Where it is `disturbed`, counters, flags and totals are overwritten now and
+/// then.
+fn compare_cycle(random: &mut Random, shape: Shape, disturbed: bool) {
     let spec = questions(shape).unwrap();
     let schedule = spec.schedule();
     assert_eq!(schedule.len(), spec.lookups());
     let mut ours = Stepped::drawn(random, &spec);
     assert_eq!(ours.array.start(), Answer::Done);
     assert_eq!(ours.array.cycle, record(&schedule, 0));
-    let State {
-        counters, flags, ..
-    } = &ours.array.state;
-    assert!(counters.iter().chain(flags).all(|&byte| byte == 0));
+    let [_, zeros @ ..] = ours.array.state.each().into_array();
+    assert!(zeros.into_iter().flatten().all(|&byte| byte == 0));
     let mut plain = ours.clone();
     for _ in 0..schedule.len() {
-        if meddle && random.one_in(3) {
-            ours.array.state.counters = random.bytes(shape.rows);
-            ours.array.state.flags = random.bytes(shape.rows);
-            plain.array.state.counters = ours.array.state.counters.clone();
-            plain.array.state.flags = ours.array.state.flags.clone();
+        if disturbed && random.one_in(3) {
+            meddle(random, shape, &mut ours.array.state);
+            plain.array.state = ours.array.state.clone();
         }
         assert_eq!(ours.step(), Answer::Done);
         let Stepped { array, matches } = &mut plain;
@@ -100,11 +104,25 @@ fn whole_cycles_on_small_shapes() {
 }
 
 #[test]
-fn whole_cycles_with_any_bytes_in_counters_and_flags() {
+fn whole_cycles_with_any_bytes_in_counters_flags_and_totals() {
     let mut random = settings::random(4);
     for _ in 0..200 {
         let shape = small_shape(&mut random);
         compare_cycle(&mut random, shape, true);
+    }
+}
+
+#[test]
+fn whole_cycles_on_arrays_of_one_block_and_more() {
+    let mut random = settings::random(20);
+    for rows in BLOCK_EDGES {
+        for turn in 0..20 {
+            let shape = Shape {
+                rows,
+                ..short_cycle_shape(&mut random, 60)
+            };
+            compare_cycle(&mut random, shape, turn % 2 == 1);
+        }
     }
 }
 

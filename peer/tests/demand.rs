@@ -1,12 +1,14 @@
 //! Demand 3 on random lists of calls, with the log kept beside the run. The
 //! log is fed the shape and the calls with their arguments, and none of the
-//! library's answers.
+//! library's answers. Beside it, what the panel is told and a full reading of
+//! the flags.
 
 use peer::testing::lists::list;
+use peer::testing::naive::panel::counts;
 use peer::testing::naive::spec::{questions, Spec};
 use peer::testing::settings;
-use peer::testing::shapes::short_cycle_shape;
-use peer::{Answer, Array, Call, Phase, Shape};
+use peer::testing::shapes::{short_cycle_shape, BLOCK_EDGES};
+use peer::{panel, Answer, Array, Call, Panel, Phase, Shape, State};
 
 #[derive(Clone, Copy, Debug, PartialEq, Eq)]
 enum LoggedCycle {
@@ -62,6 +64,7 @@ impl Log {
             }
             Call::Step { matches } => self.step(matches.len()),
             Call::Run { .. }
+            | Call::Panel
             | Call::FirstMatch { .. }
             | Call::Sound { .. }
             | Call::Read { .. }
@@ -119,6 +122,28 @@ struct Seen {
     idle: usize,
     open: usize,
     complete: usize,
+    none_flagged: usize,
+    several_flagged: usize,
+    first_in_block: [usize; 3],
+}
+
+/// The totals are the counts of a full reading of the flags, and the panel is
+/// told what that reading gives, by one block at most.
+fn check_panel(array: &Array, seen: &mut Seen) {
+    let State { flags, totals, .. } = &array.state;
+    assert_eq!(*totals, counts(flags));
+    let first = flags.iter().position(|&flag| flag != 0);
+    let told = Panel {
+        total: flags.iter().filter(|&&flag| flag != 0).count(),
+        first,
+        read: first.map_or(0, |first| first % 64 + 1),
+    };
+    assert_eq!(panel(array.shape, flags, totals), Ok(told));
+    match first {
+        None => seen.none_flagged += 1,
+        Some(first) => seen.first_in_block[(first / 64).min(2)] += 1,
+    }
+    seen.several_flagged += usize::from(told.total > 1);
 }
 
 /// The claim after a list.
@@ -131,6 +156,7 @@ fn check(log: &Log, array: &Array, seen: &mut Seen) {
     };
     assert_eq!(array.cycle.phase, phase);
     assert_eq!(array.cycle.count, log.count);
+    check_panel(array, seen);
     match phase {
         Phase::Idle => seen.idle += 1,
         Phase::Open => seen.open += 1,
@@ -197,6 +223,28 @@ fn demand_3_holds_on_random_lists() {
     assert!(seen.ended_with_mark > 100);
     assert!(seen.refused > 1000);
     assert!(seen.idle > 1000 && seen.open > 1000 && seen.complete > 1000);
+    assert!(seen.none_flagged > 1000 && seen.several_flagged > 1000);
+}
+
+#[test]
+fn demand_3_holds_on_arrays_of_one_block_and_more() {
+    let mut random = settings::random(21);
+    let lists = settings::lists(40);
+    let mut seen = Seen::default();
+    for rows in BLOCK_EDGES {
+        for _ in 0..lists {
+            let shape = Shape {
+                rows,
+                ..short_cycle_shape(&mut random, 20)
+            };
+            let calls = list(&mut random, shape, 10);
+            run(shape, calls, &mut seen);
+        }
+    }
+    println!("{lists} lists for each of {BLOCK_EDGES:?} rows: {seen:?}");
+    assert!(seen.verdicts > 100 && seen.refused > 100);
+    assert!(seen.none_flagged > 1000 && seen.several_flagged > 100);
+    assert!(seen.first_in_block.iter().all(|&told| told > 100));
 }
 
 /// Every change of up to τ cells of a row is caught: all places and levels on

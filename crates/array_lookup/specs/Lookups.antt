@@ -1,15 +1,14 @@
 -- Document 01's task lookup and first match: the questions, in their order, and each call as one definition, taken or refused.
-use mathlib.Core.Bool.{cond}
 use mathlib.Core.List.{List, [], _∷_}
 use Prim.Native.Nat.{ℕ}
-use lib.Dec.{eqb, ltb}
+use lib.Dec.{eqb}
 use lib.ListN.{length}
 use Rattle.parity.specs.Lists.{sumOver, firstFrom}
 use Rattle.parity.specs.Match.{taskVector}
 use Rattle.parity.specs.Shape.{columns}
 use Rattle.parity.specs.Questions.{Question, firstNo, lengthQuestion, inputsQuestion}
 use Rattle.parity.specs.declared.Shape.{Shape}
-use Rattle.shape.specs.Answers.{Said, Found, row, none, Result, accepted, answering, giving, calling}
+use Rattle.shape.specs.Answers.{Said, Found, none, rowOrNone, Result, accepted, answering, giving, calling}
 use Rattle.array_memory.specs.Geometry.{rowMatch, matchBytes}
 use Rattle.array_memory.specs.Memory.{Memory}
 use Rattle.array_memory.specs.Questions.{cellsQuestions}
@@ -38,10 +37,6 @@ lookupCall s mem inputs matches =
     (giving (accepted (taskCount s mem inputs)) (taskMatches s mem inputs) mem)
 
 -- ---- first match
-
--- a number below m is a row's, m itself is none
-abbrev pub rowOrNone : ℕ → ℕ → Found
-rowOrNone m i = cond (ltb i m) (row i) none
 
 -- the first of m rows whose match byte is 1
 abbrev pub firstRow : ℕ → (ℕ → ℕ) → Found

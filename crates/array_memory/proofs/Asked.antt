@@ -10,14 +10,15 @@ use borrow.Author.Tests.{eqb-true, ltb-true, eq-eqb, lt-ltb}
 use Rattle.parity.specs.Lists.{every}
 use Rattle.parity.specs.Shape.{levels, columns}
 use Rattle.parity.specs.Claims.{Below}
-use Rattle.parity.specs.Questions.{Question, firstNo, shapeQuestions, shapeRefusal, Taken, callQuestions}
+use Rattle.parity.specs.Questions.{Question, firstNo, shapeQuestions, shapeRefusal, Taken, callQuestions, lengthQuestion}
 use Rattle.parity.specs.declared.Shape.{Shape}
 use Rattle.parity.proofs.ListLaws.{every-at, every-passes}
 use Rattle.parity.proofs.Taken.{first-yes}
 use Rattle.shape.specs.declared.sizes.Sizes.{Sizes}
 use Rattle.shape.specs.Shapes.{sizesOf}
 use Rattle.shape.proofs.Refusals.{first-none, taken-rest}
-use Rattle.array_memory.specs.Memory.{cellCount, cellsLength, rowsLengths, memoryLengths}
+use Rattle.array_memory.specs.Blocks.{blocks}
+use Rattle.array_memory.specs.Memory.{Memory, withCells, RowsSized, Sized, cellCount, cellsLength, flagsLengths, rowsQuestions, memoryQuestions}
 use Rattle.array_memory.specs.Questions.{cellsQuestions, rowArguments, programArguments, driftArguments}
 use Rattle.array_memory.proofs.RowPlaces.{row-fits, cells-high}
 
@@ -112,30 +113,49 @@ module _ {s : Shape} {cells : ℕ} (p : CellsTaken s cells) where
   unfolding cellCount
   row-within z e row h = rw (ap (λ z. z .columns) e, p .counted) (row-fits row (s .rows) (columns s) h)
 
--- ---- the memory, by the numbers of its bytes
-pub record RowsTaken (s : Shape) (m n : ℕ) : Type 0 where
+-- ---- the memory: flags and totals, by their numbers
+pub record FlagsTaken (s : Shape) (flagCount totalCount : ℕ) : Type 0 where
   pub taken : Taken s
-  pub counters : m ≡ s .rows
-  pub flags : n ≡ s .rows
+  pub flags : flagCount ≡ s .rows
+  pub totals : totalCount ≡ blocks s
 
-pub rows-taken :
-    (s : Shape) (counters flags : ℕ) (own : List Question) → firstNo (callQuestions s [] (rowsLengths s counters flags) own) ≡ 0
-    → RowsTaken s counters flags × (firstNo own ≡ 0)
+pub flags-taken :
+    (s : Shape) (flags totals : ℕ) (own : List Question) → firstNo (callQuestions s [] (flagsLengths s flags totals) own) ≡ 0
+    → FlagsTaken s flags totals × (firstNo own ≡ 0)
 unfolding shapeRefusal
-rows-taken s counters flags own none =
-    let parts = first-none (shapeQuestions s) (rowsLengths s counters flags ++ own) refl none in
+flags-taken s flags totals own none =
+    let parts = first-none (shapeQuestions s) (flagsLengths s flags totals ++ own) refl none in
     let one = first-yes _ _ 6 (lit< tt) (parts .1) in
     let two = first-yes _ _ 6 (lit< tt) (one .1) in
-    (record { taken = parts .0; counters = eqb-true counters (s .rows) (one .0); flags = eqb-true flags (s .rows) (two .0) }, two .1)
+    (record { taken = parts .0; flags = eqb-true flags (s .rows) (one .0); totals = eqb-true totals (blocks s) (two .0) }, two .1)
 
-pub record MemoryTaken (s : Shape) (count m n : ℕ) : Type 0 where
-  pub rows : RowsTaken s m n
-  pub cells : count ≡ cellCount s
+-- the buffers that go with the rows, and all buffers
+pub record RowsTaken (s : Shape) (mem : Memory) : Type 0 where
+  pub taken : Taken s
+  pub sized : RowsSized s mem
+
+pub rows-taken :
+    (s : Shape) (mem : Memory) (own : List Question) → firstNo (callQuestions s [] (rowsQuestions s mem) own) ≡ 0
+    → RowsTaken s mem × (firstNo own ≡ 0)
+rows-taken s mem own none =
+    let parts = flags-taken s (length (mem .flags)) (length (mem .totals)) (lengthQuestion (length (mem .counters)) (s .rows) ∷ own) none in
+    let three = first-yes _ _ 6 (lit< tt) (parts .1) in
+    let counters = eqb-true (length (mem .counters)) (s .rows) (three .0) in
+    (record { taken = parts .0 .taken; sized = record { counters = counters; flags = parts .0 .flags; totals = parts .0 .totals } }, three .1)
+
+-- cells that are written anew leave the buffers that go with the rows
+pub rows-kept : (s : Shape) (mem : Memory) → RowsSized s mem → (cells : List ℕ) → RowsSized s (withCells cells mem)
+rows-kept s mem z cells = record { counters = z .counters; flags = z .flags; totals = z .totals }
+
+pub record MemoryTaken (s : Shape) (mem : Memory) : Type 0 where
+  pub taken : Taken s
+  pub sized : Sized s mem
 
 pub memory-taken :
-    (s : Shape) (cells counters flags : ℕ) (own : List Question) → firstNo (callQuestions s [] (memoryLengths s cells counters flags) own) ≡ 0
-    → MemoryTaken s cells counters flags × (firstNo own ≡ 0)
-memory-taken s cells counters flags own none =
-    let parts = rows-taken s counters flags (cellsLength s cells ∷ own) none in
-    let three = first-yes _ _ 6 (lit< tt) (parts .1) in
-    (record { rows = parts .0; cells = eqb-true cells (cellCount s) (three .0) }, three .1)
+    (s : Shape) (mem : Memory) (own : List Question) → firstNo (callQuestions s [] (memoryQuestions s mem) own) ≡ 0
+    → MemoryTaken s mem × (firstNo own ≡ 0)
+memory-taken s mem own none =
+    let parts = rows-taken s mem (cellsLength s (length (mem .cells)) ∷ own) none in
+    let four = first-yes _ _ 6 (lit< tt) (parts .1) in
+    let cells = eqb-true (length (mem .cells)) (cellCount s) (four .0) in
+    (record { taken = parts .0 .taken; sized = record { cells = cells; rows = parts .0 .sized } }, four .1)

@@ -1,3 +1,5 @@
--- Where a row lies, and what it says of a call's arguments that no question on them fails.
+-- Where a row or a block lies, how many rows are flagged, and what it says of a call's arguments that no question on them fails.
 pub mod RowPlaces
+pub mod BlockPlaces
+pub mod FlagCounts
 pub mod Asked

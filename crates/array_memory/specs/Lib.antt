@@ -1,4 +1,5 @@
 -- What a reader has to believe of the lent memory: its buffers, where a row lies in it, and the questions on it.
+pub mod Blocks
 pub mod Memory
 pub mod Geometry
 pub mod Questions

@@ -4,21 +4,23 @@ use mathlib.Core.List.{List, [], _∷_, _++_}
 use Prim.Native.Nat.{ℕ}
 use lib.ListN.{length}
 use borrow.Author.Tests.{eq-eqb}
-use Rattle.parity.specs.Questions.{Question, firstNo, Taken}
+use Rattle.parity.specs.Questions.{Question, firstNo, Taken, callQuestions}
 use Rattle.parity.specs.declared.Shape.{Shape}
 use Rattle.shape.proofs.Refusals.{taken-rest}
-use Rattle.array_memory.specs.Memory.{Sized, rowsQuestions, memoryQuestions}
+use Rattle.array_memory.specs.Memory.{Sized, cellsLength, rowsQuestions, memoryQuestions}
 use Rattle.array_memory.specs.Questions.{cellsQuestions}
 use Rattle.array_memory.proofs.Asked.{cells-rest}
 use Rattle.cycle.specs.Record.{cycleQuestion}
-use Rattle.cycle.specs.Calls.{State, clearQuestions, startQuestions, stepArguments, stepQuestions}
+use Rattle.cycle.specs.Calls.{State, clearQuestions, startQuestions, stepArguments, lentQuestions, stepQuestions}
 
 module _ (s : Shape) (t : Taken s) (st : State) (z : Sized s (st .memory)) where
   rows-rest : (own : List Question) → firstNo (rowsQuestions s (st .memory) ++ own) ≡ firstNo own
-  rows-rest own = rw (eq-eqb _ _ (z .counters), eq-eqb _ _ (z .flags)) refl
+  rows-rest own = let rows = z .rows in rw (eq-eqb _ _ (rows .flags), eq-eqb _ _ (rows .totals), eq-eqb _ _ (rows .counters)) refl
 
   memory-rest : (own : List Question) → firstNo (memoryQuestions s (st .memory) ++ own) ≡ firstNo own
-  memory-rest own = rw (eq-eqb _ _ (z .counters), eq-eqb _ _ (z .flags), eq-eqb _ _ (z .cells)) refl
+  memory-rest own =
+      let cells : List Question = cellsLength s (length (st .memory .cells)) ∷ own in
+      rows-rest cells ∙ rw (eq-eqb _ _ (z .cells)) refl
 
   pub clear-asked : firstNo (clearQuestions s (st .memory)) ≡ 0
   clear-asked = taken-rest s t (memoryQuestions s (st .memory) ++ []) ∙ memory-rest []
@@ -30,7 +32,11 @@ module _ (s : Shape) (t : Taken s) (st : State) (z : Sized s (st .memory)) where
   pub cells-asked : (own : List Question) → firstNo (cellsQuestions s (length (st .memory .cells)) own) ≡ firstNo own
   cells-asked own = cells-rest s (length (st .memory .cells)) (record { taken = t; counted = z .cells }) own
 
+  -- a call on the memory and match bytes
+  pub lent-asked :
+      (matches : List ℕ) (own : List Question)
+      → firstNo (callQuestions s [] (lentQuestions s (st .memory) matches) own) ≡ firstNo (stepArguments s matches ++ own)
+  lent-asked matches own = taken-rest s t (lentQuestions s (st .memory) matches ++ own) ∙ memory-rest (stepArguments s matches ++ own)
+
   pub step-asked : (matches : List ℕ) → firstNo (stepQuestions s st matches) ≡ firstNo (stepArguments s matches ++ cycleQuestion s (st .cycle) ∷ [])
-  step-asked matches =
-      let own : List Question = stepArguments s matches ++ cycleQuestion s (st .cycle) ∷ [] in
-      taken-rest s t (memoryQuestions s (st .memory) ++ own) ∙ memory-rest own
+  step-asked matches = lent-asked matches (cycleQuestion s (st .cycle) ∷ [])

@@ -22,11 +22,12 @@ use Rattle.schedule.proofs.Index.{indexClaim}
 use Rattle.schedule.proofs.Length.{lengthClaim}
 use Rattle.schedule.proofs.Lookup.{match-unit}
 use Rattle.schedule.proofs.Ranks.{stands-support}
+use Rattle.array_memory.specs.Blocks.{blockTotals}
 use Rattle.array_memory.specs.Geometry.{rowAt, rowMatch, matchBytes}
 use Rattle.array_memory.specs.Memory.{cellCount}
 use Rattle.array_memory.proofs.RowPlaces.{row-sized}
 use Rattle.cycle.specs.Record.{entryAt, isNext}
-use Rattle.cycle.specs.Calls.{State, countedRows, flaggedRows, resetRows, stepMatches, steppedMemory}
+use Rattle.cycle.specs.Calls.{State, countedRows, flaggedRows, totalledBlocks, resetRows, stepMatches, steppedMemory}
 use Rattle.cycle.specs.Places.{standingAt}
 use Rattle.cycle.specs.declared.Cycle.{Cycle}
 use Rattle.cycle.specs.declared.place.Standing.{Standing}
@@ -151,3 +152,14 @@ module _ (s : Shape) (st : State) where
   unfolding steppedMemory flaggedRows flagged
   flags-set e sized made set =
       set ∙ rw (sized, made) (tabulate-same (s .rows) _ _ (λ i h. rw e (cond-not (eqb (getD tally i 0) 0) (getD (st .memory .flags) i 0) 1)))
+
+  -- the totals are left, or they are those of the flags
+  pub totals-kept : entryAt s (st .cycle .count) .flags ≡ false → st .memory .totals ≡ steppedMemory s st .totals
+  unfolding steppedMemory totalledBlocks
+  totals-kept e = rw e refl
+
+  pub totals-counted :
+      entryAt s (st .cycle .count) .flags ≡ true → {flags totals : List ℕ} → flags ≡ steppedMemory s st .flags → totals ≡ blockTotals flags
+      → totals ≡ steppedMemory s st .totals
+  unfolding steppedMemory totalledBlocks
+  totals-counted e made counted = counted ∙ ap blockTotals made ∙ rw e refl

@@ -5,7 +5,7 @@ use mathlib.Core.List.{List}
 use Prim.Native.Nat.{ℕ, suc, _<_}
 use native.Mathlib.Omega.{arith}
 use lib.Dec.{eqb}
-use lib.ListN.{length, getD, take, length-replicate, getD-replicate}
+use lib.ListN.{length, getD, take, replicate, length-replicate, getD-replicate}
 use lib.Seq.{take-all}
 use Rattle.parity.specs.Shape.{levels, columns}
 use Rattle.parity.specs.Matrix.{lookups}
@@ -24,10 +24,11 @@ use Rattle.parity.specs.Questions.{ifTaken}
 use Rattle.shape.specs.Answers.{accepted, refused, giving, calling}
 use Rattle.shape.proofs.Calling.{call-done}
 use Rattle.array_memory.specs.Geometry.{rowAt, rowMatch, matchBytes}
-use Rattle.array_memory.specs.Memory.{Sized, cellCount}
+use Rattle.array_memory.specs.Blocks.{blocksOf, blocks, blockTotals}
+use Rattle.array_memory.specs.Memory.{Memory, withCells, noMemory, RowsSized, Sized, cellCount}
 use Rattle.cycle.specs.Record.{entryAt, cycleAt, isNext}
 use Rattle.cycle.specs.Calls.{State, zeroRows, cleared, fresh, started, startCall, countedRows, flaggedRows, resetRows, stepMatches}
-use Rattle.cycle.specs.Calls.{steppedMemory, stepped, stepCall}
+use Rattle.cycle.specs.Calls.{totalledBlocks, steppedMemory, stepped, stepCall}
 use Rattle.cycle.specs.Run.{start, step, after}
 use Rattle.cycle.proofs.Asked.{start-asked, step-asked}
 
@@ -38,6 +39,12 @@ lineAt st i = line (getD (st .memory .counters) i 0) (getD (st .memory .flags) i
 -- each row's line is that of the first c lookups of the schedule
 abbrev pub Lines : Shape → State → ℕ → Type 0
 Lines s st c = (i : ℕ) → i < s .rows → lineAt st i ≡ lineRun s (rowAt (columns s) (st .memory .cells) i) (take c (schedule full s)) freshLine
+
+-- buffers of zeros have their lengths
+zero-sized : (s : Shape) (mem : Memory) → RowsSized s (zeroRows s mem)
+unfolding zeroRows
+zero-sized s mem =
+    record { counters = length-replicate (s .rows) 0; flags = length-replicate (s .rows) 0; totals = length-replicate (blocks s) 0 }
 
 module _ (s : Shape) (st : State) where
   pub started-lines : Lines s (started s st) 0
@@ -78,11 +85,26 @@ module _ (s : Shape) (st : State) where
   module _ (z : Sized s (st .memory)) where
     pub started-sized : Sized s (started s st .memory)
     unfolding started zeroRows
-    started-sized = record { cells = z .cells; counters = length-replicate (s .rows) 0; flags = length-replicate (s .rows) 0 }
+    started-sized = record { cells = z .cells; rows = zero-sized s (st .memory) }
+
+    -- the totals are counted anew, or left
+    totalled-length : (flags : List ℕ) → length flags ≡ s .rows → (b : Bool) → length (cond b (blockTotals flags) (st .memory .totals)) ≡ blocks s
+    unfolding blockTotals
+    totalled-length flags sized true = length-tabulate (blocksOf (length flags)) _ ∙ ap blocksOf sized
+    totalled-length flags sized false = z .rows .totals
 
     pub stepped-sized : Sized s (stepped s st .memory)
-    unfolding stepped steppedMemory resetRows flaggedRows
-    stepped-sized = record { cells = z .cells; counters = length-tabulate (s .rows) _; flags = length-tabulate (s .rows) _ }
+    unfolding stepped steppedMemory resetRows flaggedRows totalledBlocks
+    stepped-sized =
+        record {
+          cells = z .cells;
+          rows =
+              record {
+                counters = length-tabulate (s .rows) _;
+                flags = length-tabulate (s .rows) _;
+                totals = totalled-length _ (length-tabulate (s .rows) _) (entryAt s (st .cycle .count) .flags);
+              };
+        }
 
     pub start-state : Taken s → after s st start ≡ started s st
     unfolding startCall
@@ -107,5 +129,4 @@ module _ (s : Shape) (st : State) where
 -- the fresh array has buffers of their lengths
 pub fresh-sized : (s : Shape) → Sized s (fresh s .memory)
 unfolding fresh cleared zeroRows
-fresh-sized s =
-    record { cells = length-replicate (cellCount s) 0; counters = length-replicate (s .rows) 0; flags = length-replicate (s .rows) 0 }
+fresh-sized s = record { cells = length-replicate (cellCount s) 0; rows = zero-sized s (withCells (replicate (cellCount s) 0) noMemory) }

@@ -1,4 +1,5 @@
 -- Document 01, "Calls on one array": each call that has the cycle record as one definition that gives all of its result, taken or refused.
+use mathlib.Core.Bool.{cond}
 use mathlib.Core.List.{List, [], _∷_, _++_}
 use Prim.Native.Nat.{ℕ, suc}
 use lib.ListN.{length, getD, replicate}
@@ -9,6 +10,7 @@ use Rattle.parity.specs.declared.Shape.{Shape}
 use Rattle.shape.specs.Answers.{Result, accepted, giving, calling}
 use Rattle.schedule.specs.Schedule.{Entry, testVector}
 use Rattle.schedule.specs.Line.{counted, flagged, reset}
+use Rattle.array_memory.specs.Blocks.{blocks, blockTotals}
 use Rattle.array_memory.specs.Geometry.{matchBytes}
 use Rattle.array_memory.specs.Memory.{Memory, withCells, withRows, noMemory, cellCount, rowsQuestions, memoryQuestions}
 use Rattle.array_memory.specs.Questions.{cellsQuestions, programArguments}
@@ -26,9 +28,9 @@ stateOf memory cycle = record { memory = memory; cycle = cycle }
 
 -- ---- clear
 
--- counters and flags all 0
+-- counters, flags and totals all 0
 unfoldable pub zeroRows : Shape → Memory → Memory
-zeroRows s mem = withRows (replicate (s .rows) 0) (replicate (s .rows) 0) mem
+zeroRows s mem = withRows (replicate (s .rows) 0) (replicate (s .rows) 0) (replicate (blocks s) 0) mem
 
 -- cells too
 unfoldable pub cleared : Shape → Memory → Memory
@@ -38,7 +40,7 @@ cleared s mem = withCells (replicate (cellCount s) 0) (zeroRows s mem)
 abbrev pub clearQuestions : Shape → Memory → List Question
 clearQuestions s mem = callQuestions s [] (memoryQuestions s mem) []
 
--- cells, counters and flags all 0, record idle with count 0
+-- cells, counters, flags and totals all 0, record idle with count 0
 unfoldable pub clearCall : Shape → State → Result State
 clearCall s st = calling (clearQuestions s (st .memory)) [] st (giving (accepted 0) [] (stateOf (cleared s (st .memory)) idle))
 
@@ -56,11 +58,11 @@ programCall s st row given =
 
 -- ---- start
 
--- 6 on counters and flags
+-- 6 on counters, flags and totals
 abbrev pub startQuestions : Shape → Memory → List Question
 startQuestions s mem = callQuestions s [] (rowsQuestions s mem) []
 
--- counters and flags 0, record open, count 0, also when a cycle was open
+-- counters, flags and totals 0, record open, count 0, also when a cycle was open
 unfoldable pub started : Shape → State → State
 started s st = stateOf (zeroRows s (st .memory)) (cycleAt s 0)
 
@@ -89,6 +91,10 @@ countedRows s counters matches = tabulate (s .rows) (λ i. counted (s .radix) (g
 unfoldable pub flaggedRows : Shape → Entry → List ℕ → List ℕ → List ℕ
 flaggedRows s e counters flags = tabulate (s .rows) (λ i. flagged e (getD counters i 0) (getD flags i 0))
 
+-- .. where rows are flagged, each block's flagged rows are counted anew ..
+unfoldable pub totalledBlocks : Entry → List ℕ → List ℕ → List ℕ
+totalledBlocks e flags totals = cond (e .flags) (blockTotals flags) totals
+
 -- .. and counters return to 0 after the last s of an ℓ.
 unfoldable pub resetRows : Shape → Entry → List ℕ → List ℕ
 resetRows s e counters = tabulate (s .rows) (λ i. reset e (getD counters i 0))
@@ -102,7 +108,8 @@ unfoldable pub steppedMemory : Shape → State → Memory
 steppedMemory s st =
     let e = entryAt s (st .cycle .count) in
     let counters = countedRows s (st .memory .counters) (stepMatches s st) in
-    withRows (resetRows s e counters) (flaggedRows s e counters (st .memory .flags)) (st .memory)
+    let flags = flaggedRows s e counters (st .memory .flags) in
+    withRows (resetRows s e counters) flags (totalledBlocks e flags (st .memory .totals)) (st .memory)
 
 -- the next lookup of the schedule is made and counted; after the last one the record is complete
 unfoldable pub stepped : Shape → State → State

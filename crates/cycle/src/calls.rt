@@ -19,12 +19,11 @@ use shape::sizes::Checked;
 use shape::sizes::Sizes;
 ghost use mathlib.Core.Path.{_≡_};
 ghost use mathlib.Core.List.{[]};
-ghost use lib.ListN.{length};
 ghost use Rattle.parity.specs.Questions.{firstNo, callQuestions};
 ghost use Rattle.shape.specs.Lent.{was, left};
 ghost use Rattle.shape.specs.Shapes.{sizesOf};
-ghost use Rattle.array_memory.specs.Memory.{Memory, withCells, withRows, withAll, lookupLengths};
-ghost use Rattle.cycle.specs.Calls.{stateOf, clearCall, programCall, startCall, stepCall};
+ghost use Rattle.array_memory.specs.Memory.{Memory, withCells, withRows, withAll, noMemory};
+ghost use Rattle.cycle.specs.Calls.{stateOf, clearCall, programCall, startCall, lentQuestions, stepCall};
 ghost use Rattle.cycle.specs.Methods.{changing, refusedWith, doneWith};
 
 // A refusal: the record as it was given.
@@ -47,22 +46,29 @@ pub fn done(cycle: Cycle) -> Changed
 }
 
 impl Cycle {
-    // Clear: cells, counters and flags all 0, record idle: the fresh array.
+    // Clear: cells, counters, flags and totals all 0, record idle: the fresh array.
     pub fn clear(
         self,
         shape: Shape,
         cells: &mut [u8],
         counters: &mut [u8],
         flags: &mut [u8],
+        totals: &mut [u8],
     ) -> Changed
-        ensures { λ r. ⌜ ((mem : Memory) → clearCall shape (stateOf (withAll (was cells) (was counters) (was flags) mem) self)
-            ≡ changing r [] (withAll (left cells) (left counters) (left flags) mem)) ⌝ }
+        ensures { λ r. ⌜ ((mem : Memory) → clearCall shape (stateOf (withAll (was cells) (was counters) (was flags) (was totals) mem) self)
+            ≡ changing r [] (withAll (left cells) (left counters) (left flags) (left totals) mem)) ⌝ }
     {
-        match check_memory(shape, cells.len(), counters.len(), flags.len()) {
+        match check_memory(
+            shape,
+            cells.len(),
+            counters.len(),
+            flags.len(),
+            totals.len(),
+        ) {
             Checked::Refused(number) => refused(self, number),
             Checked::Taken(_) => {
                 fill(cells, 0);
-                reset_rows(counters, flags);
+                reset_rows(counters, flags, totals);
                 done(Cycle::IDLE)
             }
         }
@@ -82,46 +88,54 @@ impl Cycle {
         }
     }
 
-    // Start: counters and flags 0, record open, also when a cycle was open.
-    pub fn start(self, shape: Shape, counters: &mut [u8], flags: &mut [u8]) -> Changed
-        ensures { λ r. ⌜ ((mem : Memory) → startCall shape (stateOf (withRows (was counters) (was flags) mem) self)
-            ≡ changing r [] (withRows (left counters) (left flags) mem)) ⌝ }
+    // Start: counters, flags and totals 0, record open, also when a cycle was open.
+    pub fn start(
+        self,
+        shape: Shape,
+        counters: &mut [u8],
+        flags: &mut [u8],
+        totals: &mut [u8],
+    ) -> Changed
+        ensures { λ r. ⌜ ((mem : Memory) → startCall shape (stateOf (withRows (was counters) (was flags) (was totals) mem) self)
+            ≡ changing r [] (withRows (left counters) (left flags) (left totals) mem)) ⌝ }
     {
-        match check_rows(shape, counters.len(), flags.len()) {
+        match check_rows(shape, counters.len(), flags.len(), totals.len()) {
             Checked::Refused(number) => refused(self, number),
             Checked::Taken(sizes) => {
                 let columns = sizes.columns;
                 let checks = sizes.checks;
-                reset_rows(counters, flags);
+                reset_rows(counters, flags, totals);
                 let matrix = matrix_of(shape, checks);
                 done(Cycle::first(shape, &matrix[..columns]))
             }
         }
     }
 
-    // Step: makes the next lookup of the schedule and counts its matches; after the last one the record is
-    // complete.
+    // Step: makes the next lookup of the schedule and counts its matches; where it looks for rows to flag, the blocks'
+    // totals are counted anew; after the last lookup the record is complete.
     pub fn step(
         self,
         shape: Shape,
         cells: &[u8],
         counters: &mut [u8],
         flags: &mut [u8],
+        totals: &mut [u8],
         matches: &mut [u8],
     ) -> Changed
-        ensures { λ r. ⌜ ((mem : Memory) → stepCall shape (stateOf (withAll (was cells) (was counters) (was flags) mem) self) (was matches)
-            ≡ changing r (left matches) (withAll (was cells) (left counters) (left flags) mem)) ⌝ }
+        ensures { λ r. ⌜ ((mem : Memory) → stepCall shape (stateOf (withAll (was cells) (was counters) (was flags) (was totals) mem) self) (was matches)
+            ≡ changing r (left matches) (withAll (was cells) (left counters) (left flags) (left totals) mem)) ⌝ }
     {
         match check_matches(
             shape,
             cells.len(),
             counters.len(),
             flags.len(),
+            totals.len(),
             matches.len(),
         ) {
             Checked::Refused(number) => refused(self, number),
             Checked::Taken(sizes) => {
-                self.step_lent(shape, sizes, cells, counters, flags, matches)
+                self.step_lent(shape, sizes, cells, counters, flags, totals, matches)
             }
         }
     }
@@ -134,12 +148,13 @@ impl Cycle {
         cells: &[u8],
         counters: &mut [u8],
         flags: &mut [u8],
+        totals: &mut [u8],
         matches: &mut [u8],
     ) -> Changed
-        requires { ⌜ (firstNo (callQuestions shape [] (lookupLengths shape (length (now cells)) (length (now counters)) (length (now flags))
-            (length (now matches))) []) ≡ 0) × (sizes ≡ sizesOf shape) ⌝ }
-        ensures { λ r. ⌜ ((mem : Memory) → stepCall shape (stateOf (withAll (was cells) (was counters) (was flags) mem) self) (was matches)
-            ≡ changing r (left matches) (withAll (was cells) (left counters) (left flags) mem)) ⌝ }
+        requires { ⌜ (firstNo (callQuestions shape []
+            (lentQuestions shape (withAll (now cells) (now counters) (now flags) (now totals) noMemory) (now matches)) []) ≡ 0) × (sizes ≡ sizesOf shape) ⌝ }
+        ensures { λ r. ⌜ ((mem : Memory) → stepCall shape (stateOf (withAll (was cells) (was counters) (was flags) (was totals) mem) self) (was matches)
+            ≡ changing r (left matches) (withAll (was cells) (left counters) (left flags) (left totals) mem)) ⌝ }
     {
         let columns = sizes.columns;
         let checks = sizes.checks;
@@ -157,6 +172,7 @@ impl Cycle {
                     cells,
                     counters,
                     flags,
+                    totals,
                     matches,
                 );
                 done(next)

@@ -4,6 +4,7 @@ use super::place::Standing;
 use cycle_passes::rows::count_rows;
 use cycle_passes::rows::flag_rows;
 use cycle_passes::rows::match_column;
+use cycle_passes::totals::total_blocks;
 use cycle_place::factors::scale;
 use parity::Shape;
 use shape::byte::fill;
@@ -15,7 +16,7 @@ ghost use lib.ListN.{length};
 ghost use Rattle.parity.specs.Shape.{columns as columnsOf};
 ghost use Rattle.parity.specs.Questions.{Taken};
 ghost use Rattle.shape.specs.Lent.{was, left};
-ghost use Rattle.array_memory.specs.Memory.{Memory, withCells, withAll, cellCount};
+ghost use Rattle.array_memory.specs.Memory.{Memory, withCells, withAll, noMemory, Sized};
 ghost use Rattle.cycle.specs.Record.{isNext};
 ghost use Rattle.cycle.specs.Places.{standingAt};
 ghost use Rattle.cycle.specs.Calls.{stateOf, stepMatches, steppedMemory};
@@ -28,8 +29,8 @@ fn ends_digit(standing: Standing, factor: usize) -> bool
     standing.rank + 1 == standing.size && factor + 1 == standing.span
 }
 
-// The match bytes, the counters, and, where the lookup ends a digit, the flags; after the last digit of a check row the
-// counters return to 0.
+// The match bytes, the counters, and, where the lookup ends a digit, the flags and their totals; after the last digit of a
+// check row the counters return to 0.
 pub(crate) fn look_and_count(
     cycle: Cycle,
     shape: Shape,
@@ -38,14 +39,14 @@ pub(crate) fn look_and_count(
     cells: &[u8],
     counters: &mut [u8],
     flags: &mut [u8],
+    totals: &mut [u8],
     matches: &mut [u8],
 )
     requires { ⌜ Taken shape × (columns ≡ columnsOf shape) × ((isNext shape cycle ≡ true) × (standing ≡ standingAt shape (cycle .place))) ⌝ }
-    requires { ⌜ (length (now cells) ≡ cellCount shape) × (length (now counters) ≡ shape .rows)
-        × (length (now flags) ≡ shape .rows) × (length (now matches) ≡ shape .rows) ⌝ }
+    requires { ⌜ Sized shape (withAll (now cells) (now counters) (now flags) (now totals) noMemory) × (length (now matches) ≡ shape .rows) ⌝ }
     ensures matched { λ _. ⌜ ((mem : Memory) → stepMatches shape (stateOf (withCells (was cells) mem) cycle) ≡ left matches) ⌝ }
-    ensures stepped { λ _. ⌜ ((mem : Memory) → steppedMemory shape (stateOf (withAll (was cells) (was counters) (was flags) mem) cycle)
-        ≡ withAll (was cells) (left counters) (left flags) mem) ⌝ }
+    ensures stepped { λ _. ⌜ ((mem : Memory) → steppedMemory shape (stateOf (withAll (was cells) (was counters) (was flags) (was totals) mem) cycle)
+        ≡ withAll (was cells) (left counters) (left flags) (left totals) mem) ⌝ }
 {
     let radix = shape.radix;
     let factor = cycle.place.factor;
@@ -59,6 +60,7 @@ pub(crate) fn look_and_count(
         return;
     }
     flag_rows(counters, flags);
+    total_blocks(flags, totals);
     if 0 < digit {
         return;
     }

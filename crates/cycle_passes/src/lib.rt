@@ -1,2 +1,3 @@
-// What a step does to the rows: one pass each.
+// What a step does to the rows and to the blocks of them: one pass each.
 pub mod rows;
+pub mod totals;

@@ -103,11 +103,13 @@ pub fn flag_rows(counters: &[u8], flags: &mut [u8])
     }
 }
 
-// Counters and flags where a cycle begins: all 0.
-pub fn reset_rows(counters: &mut [u8], flags: &mut [u8])
+// Counters, flags and totals where a cycle begins: all 0.
+pub fn reset_rows(counters: &mut [u8], flags: &mut [u8], totals: &mut [u8])
     ensures counted { λ _. ⌜ left counters ≡ replicate (length (was counters)) 0 ⌝ }
     ensures flagged { λ _. ⌜ left flags ≡ replicate (length (was flags)) 0 ⌝ }
+    ensures totalled { λ _. ⌜ left totals ≡ replicate (length (was totals)) 0 ⌝ }
 {
     fill(counters, 0);
     fill(flags, 0);
+    fill(totals, 0);
 }

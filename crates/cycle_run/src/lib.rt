@@ -26,17 +26,18 @@ fn run_open(
     cells: &[u8],
     counters: &mut [u8],
     flags: &mut [u8],
+    totals: &mut [u8],
     matches: &mut [u8],
 ) -> Cycle
     requires { ⌜ Taken shape × (cycle ≡ cycleAt shape 0) ⌝ }
-    requires { ⌜ Sized shape (withAll (now cells) (now counters) (now flags) noMemory) × (length (now matches) ≡ shape .rows) ⌝ }
-    ensures { λ r. ⌜ ((mem : Memory) → let st = stateOf (withAll (was cells) (was counters) (was flags) mem) cycle in
+    requires { ⌜ Sized shape (withAll (now cells) (now counters) (now flags) (now totals) noMemory) × (length (now matches) ≡ shape .rows) ⌝ }
+    ensures { λ r. ⌜ ((mem : Memory) → let st = stateOf (withAll (was cells) (was counters) (was flags) (was totals) mem) cycle in
         giving (accepted 0) (lastMatches shape (st .memory)) (runFrom shape st (replicate (lookups shape) (step (was matches))))
-        ≡ changing (doneWith r) (left matches) (withAll (was cells) (left counters) (left flags) mem)) ⌝ }
+        ≡ changing (doneWith r) (left matches) (withAll (was cells) (left counters) (left flags) (left totals) mem)) ⌝ }
 {
     let mut now = cycle;
     while now.is_open() {
-        let stepped = now.step(shape, cells, counters, flags, matches);
+        let stepped = now.step(shape, cells, counters, flags, totals, matches);
         now = stepped.cycle;
     }
     now
@@ -49,22 +50,32 @@ pub fn run_cycle(
     cells: &[u8],
     counters: &mut [u8],
     flags: &mut [u8],
+    totals: &mut [u8],
     matches: &mut [u8],
 ) -> Changed
-    ensures { λ r. ⌜ ((mem : Memory) → cycleCall shape (stateOf (withAll (was cells) (was counters) (was flags) mem) cycle) (was matches)
-        ≡ changing r (left matches) (withAll (was cells) (left counters) (left flags) mem)) ⌝ }
+    ensures { λ r. ⌜ ((mem : Memory) → cycleCall shape (stateOf (withAll (was cells) (was counters) (was flags) (was totals) mem) cycle) (was matches)
+        ≡ changing r (left matches) (withAll (was cells) (left counters) (left flags) (left totals) mem)) ⌝ }
 {
     match check_matches(
         shape,
         cells.len(),
         counters.len(),
         flags.len(),
+        totals.len(),
         matches.len(),
     ) {
         Checked::Refused(number) => refused(cycle, number),
         Checked::Taken(_) => {
-            let started = cycle.start(shape, counters, flags);
-            done(run_open(started.cycle, shape, cells, counters, flags, matches))
+            let started = cycle.start(shape, counters, flags, totals);
+            done(run_open(
+                started.cycle,
+                shape,
+                cells,
+                counters,
+                flags,
+                totals,
+                matches,
+            ))
         }
     }
 }

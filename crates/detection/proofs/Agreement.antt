@@ -14,7 +14,7 @@ use Rattle.parity.specs.declared.Shape.{Shape}
 use Rattle.parity.proofs.ListLaws.{Each}
 use Rattle.schedule.proofs.All.{All, all-at, all-turn}
 use Rattle.array_memory.specs.Geometry.{rowAt}
-use Rattle.array_memory.specs.Memory.{Sized, cellCount}
+use Rattle.array_memory.specs.Memory.{RowsSized, Sized, cellCount}
 use Rattle.cycle.specs.Calls.{State, zeroRows, cleared, fresh}
 use Rattle.cycle.specs.declared.Cycle.{Cycle}
 use Rattle.cycle.specs.declared.Phase.the-variants.{Idle}
@@ -24,7 +24,7 @@ use Rattle.detection.specs.Claims.{flat}
 use Rattle.detection.proofs.Elements.{all-replicate}
 use Rattle.detection.proofs.Rows.{Wide, flat-each, flat-replicate, flat-length, flat-row}
 use Rattle.detection.proofs.ZeroRow.{zero-row}
-use Rattle.cycle.proofs.Steps.{Lines}
+use Rattle.cycle.proofs.Steps.{Lines, fresh-sized}
 
 -- a row as it can stand: n cells, all below q
 pub record Cells (s : Shape) (row : List ℕ) : Type 0 where
@@ -60,8 +60,7 @@ InCourse s st ended c mark = Running s st c mark × (c ≡ lookups s)
 
 pub record Agrees (s : Shape) (st : State) (l : Log) : Type 0 where
   pub rows : RowsAgree s (st .memory .cells) (l .written) (l .standing)
-  pub counters : length (st .memory .counters) ≡ s .rows
-  pub flags : length (st .memory .flags) ≡ s .rows
+  pub rest : RowsSized s (st .memory)
   pub course : InCourse s st (l .course) (l .count) (l .mark)
 
 module _ (s : Shape) (cells : List ℕ) (written standing : List (List ℕ)) (r : RowsAgree s cells written standing) where
@@ -92,7 +91,7 @@ module _ (s : Shape) (cells : List ℕ) (written standing : List (List ℕ)) (r 
         ap (λ held. take (columns s) (drop (i * columns s) held)) (r .laid) ∙ flat-row (columns s) standing i wide (rw (r .standingCount) h)
 
 pub sized : (s : Shape) (st : State) (l : Log) → Agrees s st l → Sized s (st .memory)
-sized s st l a = record { cells = cells-sized s _ _ _ (a .rows); counters = a .counters; flags = a .flags }
+sized s st l a = record { cells = cells-sized s _ _ _ (a .rows); rows = a .rest }
 
 pub agrees-fresh : (s : Shape) → Taken s → Agrees s (fresh s) (blank s)
 unfolding fresh cleared zeroRows blank cellCount
@@ -106,7 +105,6 @@ agrees-fresh s t =
             stands = all-replicate (Cells s) (s .rows) _ (codeword-cells s _ (zero-row s t));
             laid = sym (flat-replicate (s .rows) (columns s) 0);
           };
-      counters = length-replicate (s .rows) 0;
-      flags = length-replicate (s .rows) 0;
+      rest = fresh-sized s .rows;
       course = (record { phase = refl; count = refl }, refl);
     }

@@ -7,13 +7,14 @@ use Rattle.parity.specs.Match.{matchByte, taskVector}
 use Rattle.schedule.specs.Schedule.{factors, ofDigit, ofCheck, schedule, unitVector, testVector}
 use Rattle.schedule.specs.Line.{counted, flagged, reset}
 use Rattle.shape.specs.Answers.{calling}
+use Rattle.array_memory.specs.Blocks.{blocksOf, blockAt, countFlagged, blockTotals}
 use Rattle.array_memory.specs.Geometry.{rowAt, withRow, rowMatch, matchBytes}
 use Rattle.array_memory.specs.Memory.{cellCount}
 use Rattle.array.specs.Calls.{drifted, driftCall, programmed}
 use Rattle.array_lookup.specs.Lookups.{taskMatches, taskCount, lookupCall}
 use Rattle.cycle.specs.Record.{entryAt, cycleAt, isNext}
 use Rattle.cycle.specs.Calls.{zeroRows, cleared, fresh, programCall, started, startCall, countedRows, flaggedRows, resetRows, stepMatches}
-use Rattle.cycle.specs.Calls.{steppedMemory, stepped, stepCall}
+use Rattle.cycle.specs.Calls.{totalledBlocks, steppedMemory, stepped, stepCall}
 use Rattle.cycle.specs.Run.{run}
 use Rattle.detection.specs.Log.{blank, log}
 use Rattle.detection.specs.Examples.{ExamplesClaim, examples}
@@ -21,7 +22,7 @@ use Rattle.detection.specs.Examples.{ExamplesClaim, examples}
 pub examplesClaim : ExamplesClaim
 unfolding
     examples run log blank calling zeroRows cleared fresh programCall driftCall lookupCall startCall stepCall started stepped steppedMemory drifted programmed
-    taskMatches taskCount countedRows flaggedRows resetRows stepMatches entryAt cycleAt isNext cellCount rowAt withRow rowMatch matchBytes counted flagged
+    taskMatches taskCount countedRows flaggedRows totalledBlocks resetRows stepMatches entryAt cycleAt isNext cellCount blocksOf blockAt countFlagged blockTotals rowAt withRow rowMatch matchBytes counted flagged
     reset factors ofDigit ofCheck schedule unitVector testVector matchByte taskVector number checkDigit checkCell encode weight ofWeight columnOrder eligible
     ruleColumns checkColumns matrix support matrixOnes lookups digit levels largest limit redundancy checks columns
 examplesClaim = refl

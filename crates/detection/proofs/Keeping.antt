@@ -21,7 +21,7 @@ use Rattle.array_memory.specs.Geometry.{withRow}
 use Rattle.array_memory.specs.Memory.{Memory, Sized, withCells}
 use Rattle.array_memory.specs.Questions.{cellsQuestions, programArguments, driftArguments}
 use Rattle.array.specs.Calls.{programmed, drifted, driftCall}
-use Rattle.array_memory.proofs.Asked.{Programs, program-reads, Drifts, drift-reads}
+use Rattle.array_memory.proofs.Asked.{Programs, program-reads, Drifts, drift-reads, rows-kept}
 use Rattle.array_lookup.specs.Lookups.{lookupArguments, taskMatches, taskCount, lookupCall}
 use Rattle.cycle.specs.Record.{idle, isNext}
 use Rattle.cycle.specs.Calls.{State, stateOf, zeroRows, cleared, fresh, clearCall, programCall, started, steppedMemory, stepped}
@@ -92,8 +92,7 @@ module _ (s : Shape) (t : Taken s) (st : State) (l : Log) (a : Agrees s st l) wh
       rw (start-state s st (sized s st l a) t)
       (record {
         rows = a .rows;
-        counters = z .counters;
-        flags = z .flags;
+        rest = z .rows;
         course = (record { stands = stands-at s 0 _ refl; lines = λ off. started-lines s st }, lookups-some s t);
       })
 
@@ -111,8 +110,7 @@ module _ (s : Shape) (t : Taken s) (st : State) (l : Log) (a : Agrees s st l) wh
       go zero e =
           record {
             rows = rows-programmed s _ _ _ (a .rows) t row given (program-reads s row given e);
-            counters = a .counters;
-            flags = a .flags;
+            rest = rows-kept s (st .memory) (a .rest) _;
             course = (record { phase = refl; count = refl }, refl);
           }
       go (suc n) e = a
@@ -133,8 +131,7 @@ module _ (s : Shape) (t : Taken s) (st : State) (l : Log) (a : Agrees s st l) wh
       go zero e =
           record {
             rows = rows-drifted s _ _ _ (a .rows) row column level (drift-reads s row column level e);
-            counters = a .counters;
-            flags = a .flags;
+            rest = rows-kept s (st .memory) (a .rest) _;
             course = marked s st _ (l .course) (l .count) (l .mark) (a .course);
           }
       go (suc n) e = a
@@ -159,7 +156,7 @@ module _ (s : Shape) (t : Taken s) (st : State) (l : Log) (a : Agrees s st l) wh
   unfolding stepped steppedMemory
   agrees-stepped r h =
       let z : Sized s (stepped s st .memory) = stepped-sized s st (sized s st l a) in
-      record { rows = a .rows; counters = z .counters; flags = z .flags; course = go (eqb (suc (l .count)) (lookups s)) refl }
+      record { rows = a .rows; rest = z .rows; course = go (eqb (suc (l .count)) (lookups s)) refl }
     where
       next : Running s (stepped s st) (suc (l .count)) (l .mark)
       next =

@@ -36,9 +36,9 @@ module _ (s : Shape) (t : Taken s) where
   flags-ended cells st below u =
       let sound : ℕ → ℕ = λ i. cond (isCodeword s (rowAt (columns s) cells i)) 0 1 in
       let below′ : Below (levels s) (cellCount s) (st .memory .cells) = rw (u .still) below in
-      ext-getD 0 (st .memory .flags) (tabulate (s .rows) sound) (u .sized .flags ∙ sym (length-tabulate (s .rows) sound))
+      ext-getD 0 (st .memory .flags) (tabulate (s .rows) sound) (u .sized .rows .flags ∙ sym (length-tabulate (s .rows) sound))
       (λ i h.
-      let l : i < s .rows = omega (arith, u .sized .flags) in
+      let l : i < s .rows = omega (arith, u .sized .rows .flags) in
       lines-ended s st t (u .lines) i l (row-sized s (st .memory .cells) i (u .sized .cells) l) (row-below s (st .memory .cells) i l below′)
       ∙ ap (λ held. cond (isCodeword s (rowAt (columns s) held i)) 0 1) (u .still)
       ∙ sym (getD-tabulate (s .rows) sound i 0 l))

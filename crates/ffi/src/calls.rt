@@ -13,7 +13,7 @@ ghost use Rattle.cycle_run.specs.Cycles.{cycleCall};
 ghost use Rattle.ffi_words.specs.Words.{storedOf, onWords};
 ghost use Rattle.ffi.specs.Numbers.{telling};
 
-// Clear: cells, counters and flags all 0, record idle: the fresh array.
+// Clear: cells, counters, flags and totals all 0, record idle: the fresh array.
 #[no_mangle]
 pub extern "C" fn jorivelune_clear(
     words: &mut [usize; 6],
@@ -21,12 +21,13 @@ pub extern "C" fn jorivelune_clear(
     cells: &mut [u8],
     counters: &mut [u8],
     flags: &mut [u8],
+    totals: &mut [u8],
 ) -> u8
-    ensures { λ r. ⌜ ((mem : Memory) → onWords (clearCall shape) (withAll (was cells) (was counters) (was flags) mem) (was words)
-        ≡ giving (telling r 0) [] (storedOf (withAll (left cells) (left counters) (left flags) mem) (left words))) ⌝ }
+    ensures { λ r. ⌜ ((mem : Memory) → onWords (clearCall shape) (withAll (was cells) (was counters) (was flags) (was totals) mem) (was words)
+        ≡ giving (telling r 0) [] (storedOf (withAll (left cells) (left counters) (left flags) (left totals) mem) (left words))) ⌝ }
 {
     let cycle = cycle_of(words);
-    store(words, cycle.clear(shape, cells, counters, flags))
+    store(words, cycle.clear(shape, cells, counters, flags, totals))
 }
 
 // Program: writes a row of k levels with its check cells; the record becomes idle.
@@ -45,22 +46,24 @@ pub extern "C" fn jorivelune_program(
     store(words, cycle.program(shape, cells, row, given))
 }
 
-// Start: counters and flags 0, record open, count 0, also when a cycle was open.
+// Start: counters, flags and totals 0, record open, count 0, also when a cycle was open.
 #[no_mangle]
 pub extern "C" fn jorivelune_start(
     words: &mut [usize; 6],
     shape: Shape,
     counters: &mut [u8],
     flags: &mut [u8],
+    totals: &mut [u8],
 ) -> u8
-    ensures { λ r. ⌜ ((mem : Memory) → onWords (startCall shape) (withRows (was counters) (was flags) mem) (was words)
-        ≡ giving (telling r 0) [] (storedOf (withRows (left counters) (left flags) mem) (left words))) ⌝ }
+    ensures { λ r. ⌜ ((mem : Memory) → onWords (startCall shape) (withRows (was counters) (was flags) (was totals) mem) (was words)
+        ≡ giving (telling r 0) [] (storedOf (withRows (left counters) (left flags) (left totals) mem) (left words))) ⌝ }
 {
     let cycle = cycle_of(words);
-    store(words, cycle.start(shape, counters, flags))
+    store(words, cycle.start(shape, counters, flags, totals))
 }
 
-// Step: makes the next lookup of the schedule, writes the match bytes and counts them.
+// Step: makes the next lookup of the schedule, writes the match bytes and counts them; where it looks for rows to flag,
+// counts the blocks' totals anew.
 #[no_mangle]
 pub extern "C" fn jorivelune_step(
     words: &mut [usize; 6],
@@ -68,13 +71,18 @@ pub extern "C" fn jorivelune_step(
     cells: &[u8],
     counters: &mut [u8],
     flags: &mut [u8],
+    totals: &mut [u8],
     matches: &mut [u8],
 ) -> u8
-    ensures { λ r. ⌜ ((mem : Memory) → onWords (λ st. stepCall shape st (was matches)) (withAll (was cells) (was counters) (was flags) mem) (was words)
-        ≡ giving (telling r 0) (left matches) (storedOf (withAll (was cells) (left counters) (left flags) mem) (left words))) ⌝ }
+    ensures { λ r. ⌜ ((mem : Memory) → onWords (λ st. stepCall shape st (was matches))
+        (withAll (was cells) (was counters) (was flags) (was totals) mem) (was words)
+        ≡ giving (telling r 0) (left matches) (storedOf (withAll (was cells) (left counters) (left flags) (left totals) mem) (left words))) ⌝ }
 {
     let cycle = cycle_of(words);
-    store(words, cycle.step(shape, cells, counters, flags, matches))
+    store(
+        words,
+        cycle.step(shape, cells, counters, flags, totals, matches),
+    )
 }
 
 // One whole cycle: a start and all its steps.
@@ -85,14 +93,16 @@ pub extern "C" fn jorivelune_run(
     cells: &[u8],
     counters: &mut [u8],
     flags: &mut [u8],
+    totals: &mut [u8],
     matches: &mut [u8],
 ) -> u8
-    ensures { λ r. ⌜ ((mem : Memory) → onWords (λ st. cycleCall shape st (was matches)) (withAll (was cells) (was counters) (was flags) mem) (was words)
-        ≡ giving (telling r 0) (left matches) (storedOf (withAll (was cells) (left counters) (left flags) mem) (left words))) ⌝ }
+    ensures { λ r. ⌜ ((mem : Memory) → onWords (λ st. cycleCall shape st (was matches))
+        (withAll (was cells) (was counters) (was flags) (was totals) mem) (was words)
+        ≡ giving (telling r 0) (left matches) (storedOf (withAll (was cells) (left counters) (left flags) (left totals) mem) (left words))) ⌝ }
 {
     let cycle = cycle_of(words);
     store(
         words,
-        run_cycle(cycle, shape, cells, counters, flags, matches),
+        run_cycle(cycle, shape, cells, counters, flags, totals, matches),
     )
 }

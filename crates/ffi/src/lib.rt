@@ -2,3 +2,4 @@
 // the number of the first question that fails, 0 where it is taken.
 pub mod calls;
 pub mod cells;
+pub mod summary;

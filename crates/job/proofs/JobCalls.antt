@@ -20,7 +20,7 @@ use Rattle.cycle.specs.Calls.{lentQuestions, stepQuestions, stepMatches, steppe
 use Rattle.cycle.specs.Run.{Call, clear, start, step, runFrom, run}
 use Rattle.cycle.specs.Methods.{changing, doneWith}
 use Rattle.cycle.specs.declared.Changed.{Changed}
-use Rattle.cycle.proofs.Asked.{clear-asked}
+use Rattle.cycle.proofs.Asked.{clear-asked, lent-asked}
 use Rattle.cycle.proofs.Runs.{run-append}
 use Rattle.cycle.proofs.Steps.{fresh-sized}
 use Rattle.cycle_run.specs.Cycles.{cycleQuestions, lastMatches, cycleCall}
@@ -64,19 +64,19 @@ module _ (s : Shape) where
   module _ (t : Taken s) where
     -- a clear of lent buffers leaves the fresh array
     clear-gives :
-        (cells counters flags : List ℕ)
-        → let mem = withAll cells counters flags noMemory in Sized s mem → clearCall s (stateOf mem idle) ≡ giving (accepted 0) [] (fresh s)
+        (cells counters flags totals : List ℕ)
+        → let mem = withAll cells counters flags totals noMemory in Sized s mem → clearCall s (stateOf mem idle) ≡ giving (accepted 0) [] (fresh s)
     unfolding clearCall fresh cleared zeroRows
-    clear-gives cells counters flags z =
-        let st = stateOf (withAll cells counters flags noMemory) idle in
+    clear-gives cells counters flags totals z =
+        let st = stateOf (withAll cells counters flags totals noMemory) idle in
         call-done (clearQuestions s (st .memory)) [] st _ (clear-asked s t st z)
 
     pub clear-left :
-        (cells counters flags : List ℕ) → let mem = withAll cells counters flags noMemory in
+        (cells counters flags totals : List ℕ) → let mem = withAll cells counters flags totals noMemory in
         Sized s mem → (r : Changed) (last : Memory) → clearCall s (stateOf mem idle) ≡ changing r [] last → fresh s ≡ stateOf last idle
     unfolding fresh
-    clear-left cells counters flags z r last e =
-        let state : fresh s ≡ stateOf last (r .cycle) = ap (λ r. r .state) (sym (clear-gives cells counters flags z) ∙ e) in
+    clear-left cells counters flags totals z r last e =
+        let state : fresh s ≡ stateOf last (r .cycle) = ap (λ r. r .state) (sym (clear-gives cells counters flags totals z) ∙ e) in
         state ∙ ap (stateOf last) (sym (ap (λ st. st .cycle) state))
 
     cycle-left :
@@ -85,8 +85,7 @@ module _ (s : Shape) where
         ≡ giving (accepted 0) (lastMatches s mem) (runFrom s (stateOf mem idle) (start ∷ replicate (lookups s) (step matches)))
     unfolding cycleCall
     cycle-left mem z matches l =
-        let none : firstNo (cycleQuestions s mem matches) ≡ 0 = taken-rest s t (lentQuestions s mem matches ++ [])
-        ∙ simp (eq-eqb _ _ (z .cells), eq-eqb _ _ (z .counters), eq-eqb _ _ (z .flags), eq-eqb _ _ l) in
+        let none : firstNo (cycleQuestions s mem matches) ≡ 0 = lent-asked s t (stateOf mem idle) z matches [] ∙ rw (eq-eqb _ _ l) refl in
         call-done (cycleQuestions s mem matches) matches (stateOf mem idle) _ none
 
 -- ---- a job
@@ -112,7 +111,7 @@ module _ (input : List ℕ) (s : Shape) (same : s ≡ jobShape input) (t : Taken
       runFrom s (fresh s)
       (clear ∷ programCalls input (s .rows) ++ drifts ++ start ∷ replicate (lookups s) (step (replicate (s .rows) 0))))
       (sym same)
-      ∙ ap (λ r. runFrom s (r .state) (programs ++ drifts ++ cycle)) (clear-gives s t _ _ _ (fresh-sized s))
+      ∙ ap (λ r. runFrom s (r .state) (programs ++ drifts ++ cycle)) (clear-gives s t _ _ _ _ (fresh-sized s))
       ∙ run-append s (fresh s) (programs ++ drifts) cycle
       ∙ ap (λ st. runFrom s st cycle) (run-append s (fresh s) programs drifts ∙ ap (λ st. runFrom s st drifts) p ∙ d)
       ∙ steps-same s none matches (length-replicate (s .rows) 0 ∙ sym l) (lookups s) _

@@ -61,20 +61,25 @@ pub record Space : Type 0 where
   pub cells : List ℕ
   pub counters : List ℕ
   pub flags : List ℕ
+  pub totals : List ℕ
   pub matches : List ℕ
   pub out : List ℕ
 
-abbrev pub space : List ℕ → List ℕ → List ℕ → List ℕ → List ℕ → Space
-space cells counters flags matches out = record { cells = cells; counters = counters; flags = flags; matches = matches; out = out }
+abbrev pub space : List ℕ → List ℕ → List ℕ → List ℕ → List ℕ → List ℕ → Space
+space cells counters flags totals matches out =
+    record { cells = cells; counters = counters; flags = flags; totals = totals; matches = matches; out = out }
 
--- lengths that hold the largest job: 16,384 cells, 4,096 counters, flags and match bytes, and 200,000 bytes of text
-unfoldable pub enough : ℕ → ℕ → ℕ → ℕ → ℕ → Bool
-enough cells counters flags matches out = leb 16384 cells && leb 4096 counters && leb 4096 flags && leb 4096 matches && leb 200000 out
+-- lengths that hold the largest job: 16,384 cells, 4,096 counters, flags and match bytes, 64 totals, and 200,000 bytes of text
+unfoldable pub enough : ℕ → ℕ → ℕ → ℕ → ℕ → ℕ → Bool
+enough cells counters flags totals matches out =
+    leb 16384 cells && leb 4096 counters && leb 4096 flags && leb 64 totals && leb 4096 matches && leb 200000 out
 
 abbrev pub roomy : Space → Bool
-roomy sp = enough (length (sp .cells)) (length (sp .counters)) (length (sp .flags)) (length (sp .matches)) (length (sp .out))
+roomy sp =
+    enough (length (sp .cells)) (length (sp .counters)) (length (sp .flags)) (length (sp .totals)) (length (sp .matches)) (length (sp .out))
 
--- what calls leave, m match bytes and the state's m × n cells, m counters and m flags, at the start of their buffers; every other byte stays
+-- what calls leave, m match bytes and the state's m × n cells, m counters, m flags and ⌈m / 64⌉ totals, at the start of their buffers; every
+-- other byte stays
 abbrev pub withRun : List ℕ → State → Space → Space
 withRun matches st sp =
     let mem = st .memory in
@@ -82,12 +87,13 @@ withRun matches st sp =
     (written 0 (mem .cells) (sp .cells))
     (written 0 (mem .counters) (sp .counters))
     (written 0 (mem .flags) (sp .flags))
+    (written 0 (mem .totals) (sp .totals))
     (written 0 matches (sp .matches))
     (sp .out)
 
 -- a text at the start of out; every other byte stays
 abbrev pub withText : List ℕ → Space → Space
-withText text sp = space (sp .cells) (sp .counters) (sp .flags) (sp .matches) (written 0 text (sp .out))
+withText text sp = space (sp .cells) (sp .counters) (sp .flags) (sp .totals) (sp .matches) (written 0 text (sp .out))
 
 -- all that a job gives: the length of its text, and the buffers
 pub record Printed : Type 0 where

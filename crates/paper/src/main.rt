@@ -27,6 +27,7 @@ fn lookups_made(shape: Shape, columns: usize) -> usize {
     let cells = [0u8; 64];
     let mut counters = [0u8; 1];
     let mut flags = [0u8; 1];
+    let mut totals = [0u8; 1];
     let mut matches = [0u8; 1];
     if 64 < columns {
         return 0;
@@ -37,6 +38,7 @@ fn lookups_made(shape: Shape, columns: usize) -> usize {
         &cells[..columns],
         &mut counters,
         &mut flags,
+        &mut totals,
         &mut matches,
     );
     let cycle = ended.cycle;

@@ -9,6 +9,7 @@ fn main() {
     let mut cells = [0u8; 16384];
     let mut counters = [0u8; 4096];
     let mut flags = [0u8; 4096];
+    let mut totals = [0u8; 64];
     let mut matches = [0u8; 4096];
     let mut out = [0u8; 200000];
     let end = job::job(
@@ -16,6 +17,7 @@ fn main() {
         &mut cells,
         &mut counters,
         &mut flags,
+        &mut totals,
         &mut matches,
         &mut out,
     );

@@ -21,3 +21,12 @@ module _ {S : Type 0} (questions : List Question) (bytes : List ℕ) (state : S)
   pub call-done : firstNo questions ≡ 0 → calling questions bytes state done ≡ done
   unfolding calling
   call-done none = ap (λ n. ifTaken n done (giving (refused 0 n) bytes state)) none
+
+  -- what holds of the state that a call finds and of the one that it makes holds of the one that it leaves, taken or refused
+  pub call-keeps : (P : S → Type 0) → P state → P (done .state) → P (calling questions bytes state done .state)
+  unfolding calling
+  call-keeps P old new = go (firstNo questions)
+    where
+      go : (n : ℕ) → P (ifTaken n done (giving (refused 0 n) bytes state) .state)
+      go zero = new
+      go (suc n) = old

@@ -34,3 +34,14 @@ pub search-same :
 search-same p q zero i same = refl
 search-same p q (suc n) i same =
     ap₂ (λ t x. cond t i x) (same i (omega arith)) (search-same p q n (suc i) (λ j h. same j (omega arith)))
+
+-- a search from the second number on, by the test of the number before
+pub search-shift : (p : ℕ → Bool) (n i : ℕ) → firstFrom p n (suc i) ≡ suc (firstFrom (λ j. p (suc j)) n i)
+search-shift p zero i = refl
+search-shift p (suc n) i = go (p (suc i)) (search-shift p n (suc i))
+  where
+    go :
+        (b : Bool) → firstFrom p n (suc (suc i)) ≡ suc (firstFrom (λ j. p (suc j)) n (suc i))
+        → cond b (suc i) (firstFrom p n (suc (suc i))) ≡ suc (cond b i (firstFrom (λ j. p (suc j)) n (suc i)))
+    go true rest = refl
+    go false rest = rest

@@ -1,7 +1,8 @@
 -- What the calls answer: for each case of each answer, document 01's number and value; and all that a call gives, taken or refused.
-use mathlib.Core.Bool.{Bool, true, false}
+use mathlib.Core.Bool.{Bool, true, false, cond}
 use mathlib.Core.List.{List}
 use Prim.Native.Nat.{ℕ}
+use lib.Dec.{ltb}
 use Rattle.parity.specs.Questions.{Question, firstNo, ifTaken}
 use Rattle.shape.specs.declared.answer.Answer.{Answer}
 use Rattle.shape.specs.declared.answer.Answer.the-variants as answers
@@ -52,6 +53,10 @@ verdictSays (verdicts.Refused number) = refused false number
 pub data Found : Type 0 where
   row : ℕ → Found
   none : Found
+
+-- a number below m is a row's, any other is none
+abbrev pub rowOrNone : ℕ → ℕ → Found
+rowOrNone m i = cond (ltb i m) (row i) none
 
 abbrev pub firstSays : First → Said Found
 firstSays (firsts.Row i) = accepted (row i)

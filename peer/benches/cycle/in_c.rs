@@ -50,8 +50,17 @@ impl Array {
         state.cells.len() == self.rows * self.columns
             && state.counters.len() == self.rows
             && state.flags.len() == self.rows
+            && state.totals.len() == self.blocks()
+    }
+
+    fn blocks(&self) -> usize {
+        self.rows.div_ceil(Shape::BLOCK)
     }
 }
+
+/// What the panel is told: the total, the first flagged row, m where there is
+/// none, and the number of flags read.
+pub type Told = [usize; 3];
 
 /// Declares the functions, or has each of them fail where they are not linked.
 macro_rules! linked {
@@ -71,22 +80,38 @@ macro_rules! linked {
 }
 
 linked! {
-    fn loops_start(array: *const Array, record: *mut Words, counters: *mut u8, flags: *mut u8);
+    fn loops_start(
+        array: *const Array,
+        record: *mut Words,
+        counters: *mut u8,
+        flags: *mut u8,
+        totals: *mut u8,
+    );
     fn loops_step(
         array: *const Array,
         record: *mut Words,
         cells: *const u8,
         counters: *mut u8,
         flags: *mut u8,
+        totals: *mut u8,
         matches: *mut u8,
     ) -> u8;
+    fn loops_panel(array: *const Array, flags: *const u8, totals: *const u8, told: *mut Told);
+    fn loops_reading(array: *const Array, flags: *const u8, told: *mut Told);
     fn loops_encode(array: *const Array, row: *mut u8);
 }
 
 pub fn start(array: &Array, words: &mut Words, state: State<&mut [u8]>) {
     assert!(array.fits(&state));
-    let (counters, flags) = (state.counters.as_mut_ptr(), state.flags.as_mut_ptr());
-    unsafe { loops_start(array, words, counters, flags) }
+    unsafe {
+        loops_start(
+            array,
+            words,
+            state.counters.as_mut_ptr(),
+            state.flags.as_mut_ptr(),
+            state.totals.as_mut_ptr(),
+        )
+    }
 }
 
 /// Makes so many steps.
@@ -106,11 +131,27 @@ pub fn steps(
                 state.cells.as_ptr(),
                 state.counters.as_mut_ptr(),
                 state.flags.as_mut_ptr(),
+                state.totals.as_mut_ptr(),
                 matches.as_mut_ptr(),
             )
         };
         assert_eq!(number, 0);
     }
+}
+
+pub fn panel(array: &Array, flags: &[u8], totals: &[u8]) -> Told {
+    assert!(flags.len() == array.rows && totals.len() == array.blocks());
+    let mut told = [0; 3];
+    unsafe { loops_panel(array, flags.as_ptr(), totals.as_ptr(), &mut told) };
+    told
+}
+
+/// A full reading of the flags.
+pub fn reading(array: &Array, flags: &[u8]) -> Told {
+    assert_eq!(flags.len(), array.rows);
+    let mut told = [0; 3];
+    unsafe { loops_reading(array, flags.as_ptr(), &mut told) };
+    told
 }
 
 pub fn encode(array: &Array, row: &mut [u8]) {

@@ -1,4 +1,5 @@
-// The step and the encoder as plain loops in C, to compare speed with.
+// The step, the panel and the encoder as plain loops in C, to compare speed
+// with, and a full reading of the flags beside the panel.
 //
 // A program in C would work out sizes and columns once, when it sets the array
 // up, and would trust its own buffers. So these leave out:
@@ -14,6 +15,8 @@
 
 enum { IDLE, OPEN, COMPLETE };
 
+enum { BLOCK = 64 };  // rows of a block
+
 struct array {
     size_t radix, digits, width, rows;
     size_t checks, columns;
@@ -25,6 +28,10 @@ struct record {
     size_t phase, check, digit, column, factor, count;
 };
 
+struct panel {
+    size_t total, first, read;  // first is the number of rows where there is none
+};
+
 // The first column from the given one on with a one in the check.
 static size_t next_held(const struct array *array, size_t check, size_t column)
 {
@@ -33,11 +40,23 @@ static size_t next_held(const struct array *array, size_t check, size_t column)
     return column;
 }
 
+static size_t block_count(size_t rows)
+{
+    return (rows + BLOCK - 1) / BLOCK;
+}
+
+// The row behind the last one of the block that starts at the given row.
+static size_t block_end(size_t rows, size_t start)
+{
+    return rows - start < BLOCK ? rows : start + BLOCK;
+}
+
 void loops_start(const struct array *array, struct record *record,
-                 uint8_t *counters, uint8_t *flags)
+                 uint8_t *counters, uint8_t *flags, uint8_t *totals)
 {
     memset(counters, 0, array->rows);
     memset(flags, 0, array->rows);
+    memset(totals, 0, block_count(array->rows));
     *record = (struct record){
         OPEN, 0, array->digits - 1, next_held(array, 0, 0), 1, 0,
     };
@@ -72,9 +91,23 @@ static void advance(const struct array *array, struct record *record,
     record->column = next_held(array, record->check, 0);
 }
 
+// The flagged rows of each block.
+static void count_flags(size_t rows, const uint8_t *restrict flags,
+                        uint8_t *restrict totals)
+{
+    for (size_t start = 0; start < rows; start += BLOCK) {
+        size_t end = block_end(rows, start);
+        uint8_t total = 0;
+        for (size_t i = start; i < end; i++)
+            total += flags[i] != 0;
+        totals[start / BLOCK] = total;
+    }
+}
+
 uint8_t loops_step(const struct array *array, struct record *record,
                    const uint8_t *restrict cells, uint8_t *restrict counters,
-                   uint8_t *restrict flags, uint8_t *restrict matches)
+                   uint8_t *restrict flags, uint8_t *restrict totals,
+                   uint8_t *restrict matches)
 {
     size_t column = record->column;
     if (record->phase != OPEN || record->check >= array->checks ||
@@ -101,11 +134,51 @@ uint8_t loops_step(const struct array *array, struct record *record,
     if (ends_digit) {
         for (size_t i = 0; i < rows; i++)
             flags[i] = counters[i] ? 1 : flags[i];
+        count_flags(rows, flags, totals);
         if (record->digit == 0)
             memset(counters, 0, rows);
     }
     advance(array, record, span, ends_digit);
     return 0;
+}
+
+// What the panel is told: the sum of the totals, the first flagged row of the
+// first block whose total is not 0, and the number of flags read for it.
+void loops_panel(const struct array *array, const uint8_t *flags,
+                 const uint8_t *totals, struct panel *panel)
+{
+    size_t rows = array->rows, blocks = block_count(rows);
+    size_t total = 0, block = 0;
+    for (size_t i = 0; i < blocks; i++)
+        total += totals[i];
+    while (block < blocks && totals[block] == 0)
+        block++;
+    if (block == blocks) {
+        *panel = (struct panel){total, rows, 0};
+        return;
+    }
+    size_t start = block * BLOCK, end = block_end(rows, start), row = start;
+    while (row < end && flags[row] == 0)
+        row++;
+    if (row < end)
+        *panel = (struct panel){total, row, row + 1 - start};
+    else
+        *panel = (struct panel){total, rows, end - start};
+}
+
+// The number of flagged rows and the first of them by a full reading.
+void loops_reading(const struct array *array, const uint8_t *flags,
+                   struct panel *panel)
+{
+    size_t rows = array->rows, total = 0, first = rows;
+    for (size_t i = 0; i < rows; i++) {
+        if (flags[i] != 0) {
+            if (total == 0)
+                first = i;
+            total++;
+        }
+    }
+    *panel = (struct panel){total, first, rows};
 }
 
 // The check cells of a row of n cells from its first k.

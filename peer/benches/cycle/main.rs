@@ -3,9 +3,11 @@
 //! work in turn on the same buffers, which are set to the same bytes before
 //! each run, and must leave the same bytes. A run is timed in pieces; of each
 //! piece the least time of several runs counts. Words given after `--` choose
-//! the lines whose title has one of them.
+//! the lines whose title has one of them. At the end the panel is timed beside
+//! a full reading of the flags.
 
 mod in_c;
+mod panel;
 #[path = "../../tests/proved_calls/mod.rs"]
 mod proved_calls;
 
@@ -42,6 +44,15 @@ struct Bench {
 }
 
 impl Bench {
+    /// The fresh array.
+    fn fresh(shape: Shape) -> Bench {
+        Bench {
+            words: words_of(Cycle::IDLE),
+            state: State::fresh(&shape.layout().expect("a good shape")),
+            matches: vec![0; shape.rows],
+        }
+    }
+
     /// The same bytes at the same addresses as before.
     fn copy_from(&mut self, other: &Bench) {
         self.words = other.words;
@@ -78,6 +89,9 @@ fn main() {
     for width in [50, 120, 247] {
         let shape = Shape::new(2, 3, 2, width, 512);
         line("1,000 steps, wider", shape, Work::Steps(1_000));
+    }
+    if chosen(panel::TITLE) {
+        panel::table(largest);
     }
 }
 
@@ -158,6 +172,19 @@ fn times(shape: Shape, work: Work) -> [Option<Duration>; 3] {
         Work::Steps(_) => drifted(shape),
         Work::Encode => unencoded(shape),
     };
+    let (least, end) = least(&begin, |build, bench| run(build, shape, work, bench));
+    if let Work::Steps(steps) = work {
+        check_end(&begin, &end, steps, shape);
+    }
+    least.map(|pieces| (!pieces.is_empty()).then(|| pieces.iter().sum()))
+}
+
+/// The least times of all pieces of a run by each build, no piece by C where it
+/// is not there; and what each run leaves.
+fn least(
+    begin: &Bench,
+    mut run: impl FnMut(Build, &mut Bench) -> Vec<Duration>,
+) -> ([Vec<Duration>; 3], Bench) {
     let mut bench = begin.clone();
     let mut end: Option<Bench> = None;
     let mut least: [Vec<Duration>; 3] = Default::default();
@@ -169,8 +196,8 @@ fn times(shape: Shape, work: Work) -> [Option<Duration>; 3] {
             if build == Build::C && !in_c::THERE {
                 continue;
             }
-            bench.copy_from(&begin);
-            let pieces = run(build, shape, work, &mut bench);
+            bench.copy_from(begin);
+            let pieces = run(build, &mut bench);
             if least.is_empty() {
                 least.clone_from(&pieces);
             }
@@ -181,13 +208,10 @@ fn times(shape: Shape, work: Work) -> [Option<Duration>; 3] {
             assert!(bench == *end, "the builds leave different bytes");
         }
     }
-    if let (Some(end), Work::Steps(steps)) = (end, work) {
-        check_end(&begin, &end, steps, shape);
-    }
-    least.map(|pieces| (!pieces.is_empty()).then(|| pieces.iter().sum()))
+    (least, end.expect("a run"))
 }
 
-/// All steps were made; a whole cycle flags the rows that drifted.
+/// All steps were made; a whole cycle flags and counts the rows that drifted.
 fn check_end(begin: &Bench, end: &Bench, steps: usize, shape: Shape) {
     let cycle = cycle_of(&end.words);
     assert_eq!(cycle.count, steps);
@@ -197,6 +221,9 @@ fn check_end(begin: &Bench, end: &Bench, steps: usize, shape: Shape) {
         for (row, &flag) in end.state.flags.iter().enumerate() {
             assert_eq!(flag == 0, sound(row));
         }
+        let State { flags, totals, .. } = &end.state;
+        let panel = peer::panel(shape, flags, totals).expect("a good array");
+        assert_eq!(panel.total, flags.iter().filter(|&&flag| flag != 0).count());
     }
 }
 
@@ -293,14 +320,9 @@ fn unencoded(shape: Shape) -> Bench {
         cells.extend(random.levels(layout.levels(), shape.width));
         cells.extend(random.bytes(layout.checks()));
     }
-    Bench {
-        words: words_of(Cycle::IDLE),
-        state: State {
-            cells,
-            ..State::fresh(&layout)
-        },
-        matches: vec![0; shape.rows],
-    }
+    let mut bench = Bench::fresh(shape);
+    bench.state.cells = cells;
+    bench
 }
 
 /// Rows of random levels with their check cells; in every 16th one cell has

@@ -2,6 +2,7 @@
 //! which its arguments are drawn.
 
 use crate::call::{Call, Name};
+use crate::shape::Layout;
 use crate::testing::lent::Own;
 use crate::testing::random::Random;
 
@@ -48,6 +49,7 @@ pub fn call<D: Draw>(name: Name, draw: &mut D) -> Call<D::Buffer> {
         Name::Run => Call::Run {
             matches: draw.buffer(Own::Matches),
         },
+        Name::Panel => Call::Panel,
         Name::FirstMatch => Call::FirstMatch {
             inputs: draw.inputs(),
         },
@@ -59,6 +61,47 @@ pub fn call<D: Draw>(name: Name, draw: &mut D) -> Call<D::Buffer> {
         Name::Encode => Call::Encode {
             codeword: draw.buffer(Own::Codeword),
         },
+    }
+}
+
+/// Arguments with nothing wrong in them.
+pub struct Right<'a> {
+    /// The generator of numbers.
+    pub random: &'a mut Random,
+    /// The layout that they are drawn for.
+    pub layout: &'a Layout,
+}
+
+impl Draw for Right<'_> {
+    type Buffer = Own;
+
+    fn rule(&mut self) -> (usize, Vec<u8>) {
+        let levels = self.layout.levels();
+        let rule = self.random.levels(levels, self.layout.width());
+        (self.row(), rule)
+    }
+
+    fn row(&mut self) -> usize {
+        self.random.below(self.layout.rows())
+    }
+
+    fn column(&mut self) -> usize {
+        self.random.below(self.layout.columns())
+    }
+
+    fn level(&mut self) -> u8 {
+        self.random.level(self.layout.levels())
+    }
+
+    /// Often low ones, so that rows match.
+    fn inputs(&mut self) -> Vec<u8> {
+        let levels = self.layout.levels();
+        let bound = self.random.pick(&[2, 3, levels]).min(levels);
+        self.random.levels(bound, self.layout.width())
+    }
+
+    fn buffer(&mut self, own: Own) -> Own {
+        own
     }
 }
 

@@ -18,6 +18,7 @@
 //! - [`draw`], [`arguments`], [`lists`]: the generator of calls, the arguments of
 //!   a call, and lists of calls;
 //! - [`lent`], [`guard`]: what is lent to a call, and the bytes around it;
+//! - [`panels`]: an example, flags and totals for the panel, and what it did;
 //! - [`naive`]: the definitions to compare with;
 //! - [`tally`], [`mod@print`], [`program`]: what was seen, how it is printed, and a
 //!   program that is fed.
@@ -30,6 +31,7 @@ pub mod jobs;
 pub mod lent;
 pub mod lists;
 pub mod naive;
+pub mod panels;
 pub mod print;
 pub mod program;
 pub mod random;

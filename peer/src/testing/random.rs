@@ -46,6 +46,24 @@ impl Random {
         (0..length).map(|_| self.byte()).collect()
     }
 
+    /// Any byte but 0.
+    pub fn nonzero(&mut self) -> u8 {
+        self.between(1, 255) as u8
+    }
+
+    /// So many bytes, each of them other than 0 once in so many times.
+    pub fn sparse(&mut self, length: usize, times: usize) -> Vec<u8> {
+        (0..length)
+            .map(|_| {
+                if self.one_in(times) {
+                    self.nonzero()
+                } else {
+                    0
+                }
+            })
+            .collect()
+    }
+
     /// A level below the number of levels.
     pub fn level(&mut self, levels: usize) -> u8 {
         self.below(levels) as u8

@@ -4,6 +4,9 @@ use crate::matrix::LARGEST_WIDTH;
 use crate::shape::{Layout, Shape};
 use crate::testing::random::Random;
 
+/// Numbers of rows at which a block is full, and such beside them.
+pub const BLOCK_EDGES: [usize; 10] = [1, 63, 64, 65, 127, 128, 129, 130, 4095, 4096];
+
 /// The layout of a shape that was drawn as a good one.
 pub(crate) fn layout(shape: Shape) -> Layout {
     shape.layout().expect("a good shape was drawn")
@@ -36,6 +39,20 @@ pub fn short_cycle_shape(random: &mut Random, lookups: usize) -> Shape {
     }
 }
 
+/// A good shape with few levels and columns, and any number of rows: often full
+/// blocks of them, or a number beside.
+pub fn block_shape(random: &mut Random) -> Shape {
+    let rows = match random.below(3) {
+        0 => random.pick(&BLOCK_EDGES),
+        1 => random.between(2, Shape::MAX_ROWS / Shape::BLOCK) * Shape::BLOCK,
+        _ => random.between(1, Shape::MAX_ROWS),
+    };
+    Shape {
+        rows,
+        ..small_shape(random)
+    }
+}
+
 /// A good shape with most of its numbers at a limit or beside one.
 pub fn limit_shape(random: &mut Random) -> Shape {
     let (radix, digits) = random.pick(&[
@@ -61,7 +78,17 @@ pub fn limit_shape(random: &mut Random) -> Shape {
         digits,
         errors,
         width: limit_width(random, errors),
-        rows: random.pick(&[1, 2, 3, 255, 256, 257, 4095, 4096]),
+        rows: limit_rows(random),
+    }
+}
+
+/// A number of rows at a limit, at a power of 2, at the end of a block, or
+/// beside one.
+fn limit_rows(random: &mut Random) -> usize {
+    if random.one_in(2) {
+        random.pick(&BLOCK_EDGES)
+    } else {
+        random.pick(&[1, 2, 3, 255, 256, 257, 4095, 4096])
     }
 }
 

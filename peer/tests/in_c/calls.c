@@ -1,5 +1,6 @@
-// The calls by their header: document 01's rows M1 and M2, a drift and the cycle that finds it, and refusals.
-// The exit status is the number of the first line that is not as it should be, modulo 255 and never 0, or 0.
+// The calls by their header: document 01's rows M1 and M2, a drift, the cycle that finds it, what
+// the panel is told, and refusals. The exit status is the number of the first line that is not as
+// it should be, modulo 255 and never 0, or 0.
 #include "jorivelune.h"
 
 #include <string.h>
@@ -14,12 +15,13 @@ int main(void)
 {
     struct jorivelune_shape shape = {2, 3, 1, 3, 2};
     size_t record[JORIVELUNE_WORDS] = {0};
-    uint8_t cells[8], counters[2], flags[2], matches[2], out[3];
+    uint8_t cells[8], counters[2], flags[2], totals[1] = {7}, matches[2], out[3];
     const uint8_t m1[4] = {5, 2, 1, 6}, m2[4] = {4, 3, 1, 6};
-    size_t count = 9, found = 9, steps = 0;
+    size_t count = 9, found = 9, steps = 0, total = 9, first = 9, read = 9;
     bool holds = false;
 
-    EXPECT(jorivelune_clear(record, shape, cells, 8, counters, 2, flags, 2) == 0);
+    EXPECT(jorivelune_clear(record, shape, cells, 8, counters, 2, flags, 2, totals, 1) == 0);
+    EXPECT(totals[0] == 0);
     EXPECT(jorivelune_program(record, shape, cells, 8, 0, m1, 3) == 0);
     EXPECT(jorivelune_program(record, shape, cells, 8, 1, m2, 3) == 0);
     EXPECT(memcmp(cells, m1, 4) == 0 && memcmp(cells + 4, m2, 4) == 0);
@@ -35,22 +37,45 @@ int main(void)
 
     // one cell of the second row drifts; (q - 1) x W = 7 x 4 steps find it
     EXPECT(jorivelune_drift(shape, cells, 8, 1, 2, 7) == 0);
-    EXPECT(jorivelune_start(record, shape, counters, 2, flags, 2) == 0);
+    totals[0] = 7;
+    EXPECT(jorivelune_start(record, shape, counters, 2, flags, 2, totals, 1) == 0);
+    EXPECT(totals[0] == 0);
     while (record[JORIVELUNE_PHASE] == 1) {
-        EXPECT(jorivelune_step(record, shape, cells, 8, counters, 2, flags, 2, matches, 2) == 0);
+        EXPECT(jorivelune_step(record, shape, cells, 8, counters, 2, flags, 2, totals, 1,
+                               matches, 2) == 0);
         steps++;
     }
     EXPECT(record[JORIVELUNE_PHASE] == 2 && record[JORIVELUNE_COUNT] == 28 && steps == 28);
-    EXPECT(flags[0] == 0 && flags[1] == 1);
-    EXPECT(jorivelune_run(record, shape, cells, 8, counters, 2, flags, 2, matches, 2) == 0);
-    EXPECT(record[JORIVELUNE_COUNT] == 28 && flags[0] == 0 && flags[1] == 1);
+    EXPECT(flags[0] == 0 && flags[1] == 1 && totals[0] == 1);
+    totals[0] = 7;
+    EXPECT(jorivelune_run(record, shape, cells, 8, counters, 2, flags, 2, totals, 1,
+                          matches, 2) == 0);
+    EXPECT(record[JORIVELUNE_COUNT] == 28 && flags[0] == 0 && flags[1] == 1 && totals[0] == 1);
 
-    // refusals: no lookup to come, a wrong length, no such row, a level too high, a shape with b = 0
+    // the panel: one flagged row, found by reading both flags; none where the total is 0
+    EXPECT(jorivelune_panel(shape, flags, 2, totals, 1, &total, &first, &read) == 0);
+    EXPECT(total == 1 && first == 1 && read == 2);
+    const uint8_t none_flagged[1] = {0};
+    EXPECT(jorivelune_panel(shape, flags, 2, none_flagged, 1, &total, &first, &read) == 0);
+    EXPECT(total == 0 && first == shape.rows && read == 0);
+
+    // refusals: no lookup to come, wrong lengths, no such row, a level too high, a shape with b = 0
     size_t before[JORIVELUNE_WORDS];
     memcpy(before, record, sizeof record);
-    EXPECT(jorivelune_step(record, shape, cells, 8, counters, 2, flags, 2, matches, 2) == 9);
-    EXPECT(jorivelune_start(record, shape, counters, 1, flags, 2) == 6);
+    EXPECT(jorivelune_step(record, shape, cells, 8, counters, 2, flags, 2, totals, 1,
+                           matches, 2) == 9);
+    EXPECT(jorivelune_start(record, shape, counters, 1, flags, 2, totals, 1) == 6);
+    EXPECT(jorivelune_clear(record, shape, cells, 8, counters, 2, flags, 2, totals, 0) == 6);
+    EXPECT(jorivelune_start(record, shape, counters, 2, flags, 2, totals, 0) == 6);
+    EXPECT(jorivelune_step(record, shape, cells, 8, counters, 2, flags, 2, totals, 0,
+                           matches, 2) == 6);
+    EXPECT(jorivelune_run(record, shape, cells, 8, counters, 2, flags, 2, totals, 0,
+                          matches, 2) == 6);
     EXPECT(memcmp(before, record, sizeof record) == 0);
+    EXPECT(memcmp(cells, m1, 4) == 0 && flags[0] == 0 && flags[1] == 1 && totals[0] == 1);
+    total = first = read = 9;
+    EXPECT(jorivelune_panel(shape, flags, 2, totals, 0, &total, &first, &read) == 6);
+    EXPECT(total == 0 && first == 0 && read == 0);
     EXPECT(jorivelune_sound(shape, cells, 8, 2, &holds) == 7 && !holds);
     EXPECT(jorivelune_drift(shape, cells, 8, 0, 0, 8) == 8 && cells[0] == 5);
     uint8_t row[4] = {5, 2, 1, 0};

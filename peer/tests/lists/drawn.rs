@@ -1,7 +1,7 @@
 //! A call as it is drawn for both builds: right at first, and then perhaps
 //! spoiled.
 
-use peer::testing::draw::{some_length, some_number, Draw};
+use peer::testing::draw::{some_length, some_number};
 use peer::testing::lent::{Lent, Own};
 use peer::testing::random::Random;
 use peer::testing::shapes::{small_shape, spoil};
@@ -14,45 +14,6 @@ pub struct Drawn {
     pub shape: Shape,
     pub lengths: Lent<usize>,
     pub call: Call<Own>,
-}
-
-/// Arguments with nothing wrong in them.
-pub struct Right<'a> {
-    pub random: &'a mut Random,
-    pub layout: &'a Layout,
-}
-
-impl Draw for Right<'_> {
-    type Buffer = Own;
-
-    fn rule(&mut self) -> (usize, Vec<u8>) {
-        let levels = self.layout.levels();
-        let rule = self.random.levels(levels, self.layout.width());
-        (self.row(), rule)
-    }
-
-    fn row(&mut self) -> usize {
-        self.random.below(self.layout.rows())
-    }
-
-    fn column(&mut self) -> usize {
-        self.random.below(self.layout.columns())
-    }
-
-    fn level(&mut self) -> u8 {
-        self.random.level(self.layout.levels())
-    }
-
-    /// Often low ones, so that rows match.
-    fn inputs(&mut self) -> Vec<u8> {
-        let levels = self.layout.levels();
-        let bound = self.random.pick(&[2, 3, levels]).min(levels);
-        self.random.levels(bound, self.layout.width())
-    }
-
-    fn buffer(&mut self, own: Own) -> Own {
-        own
-    }
 }
 
 impl Drawn {

@@ -1,15 +1,16 @@
 //! A list on one shape, on its way through both builds.
 
-use peer::testing::draw;
+use peer::testing::draw::{self, Right};
 use peer::testing::guard::Guarded;
-use peer::testing::lent::Lent;
+use peer::testing::lent::{Lent, Own};
 use peer::testing::naive::spec::{questions, Vector};
+use peer::testing::panels::Cases;
 use peer::testing::random::Random;
 use peer::testing::records::{cycle_of, forged, words_of, Words};
 use peer::testing::tally::Tally;
-use peer::{Answer, Cycle, Layout, Name, Phase, Shape};
+use peer::{Answer, Call, Cycle, Layout, Name, Phase, Shape};
 
-use crate::drawn::{Drawn, Right};
+use crate::drawn::Drawn;
 use crate::event::{Event, Events};
 use crate::side::Side;
 
@@ -24,6 +25,8 @@ pub struct Seen {
     /// Forged records that a step refused, and such with a phase of no name.
     pub forged: usize,
     pub nameless: usize,
+    /// What the panel was told.
+    pub panels: Cases,
 }
 
 pub struct List<'a> {
@@ -84,10 +87,16 @@ impl<'a> List<'a> {
             random: &mut self.random,
             layout: &self.layout,
         };
+        let call = draw::call(name, &mut right);
+        self.lent(call)
+    }
+
+    /// The call with buffers of their lengths.
+    pub fn lent(&self, call: Call<Own>) -> Drawn {
         Drawn {
             shape: self.shape,
             lengths: Lent::lengths(&self.layout),
-            call: draw::call(name, &mut right),
+            call,
         }
     }
 
@@ -109,6 +118,10 @@ impl<'a> List<'a> {
         self.seen.by_errors[self.shape.errors] += 1;
         if name == Name::Step && ours == Answer::Done && self.phase() == Phase::Complete {
             self.seen.ended += 1;
+        }
+        if let Answer::Panel(panel) = ours {
+            let totals = &self.ours.lent.state.totals;
+            self.seen.panels.add(self.shape.rows, totals, panel);
         }
         ours
     }

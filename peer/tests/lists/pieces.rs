@@ -2,15 +2,18 @@
 
 use peer::testing::lent::Lent;
 use peer::testing::naive::spec::record;
+use peer::testing::panels::{foreign, wrong_lengths, WITH_TOTALS};
 use peer::testing::records::{cycle_of, forged, words_of};
 use peer::{Answer, Call, Name, Phase, Shape};
 
 use crate::drawn::Drawn;
 use crate::list::List;
 
-/// The places of the cells and of the counters among all buffers.
+/// The places of the buffers of the state among all buffers.
 const CELLS: usize = 0;
 const COUNTERS: usize = 1;
+const FLAGS: usize = 2;
+const TOTALS: usize = 3;
 
 /// Phases without a name.
 const NAMELESS: [usize; 9] = [3, 4, 255, 256, 257, 258, 1 << 32, (1 << 32) + 1, usize::MAX];
@@ -87,13 +90,39 @@ impl List<'_> {
                 let columns = self.layout.columns();
                 (self.random.below(self.shape.rows) * columns, columns)
             }
-            _ => (0, self.shape.rows),
+            _ => (0, *Lent::lengths(&self.layout).at(buffer)),
         };
         let bytes = match buffer {
             COUNTERS if self.random.one_in(2) => self.random.levels(self.shape.radix, length),
+            FLAGS | TOTALS if self.random.one_in(2) => self.random.sparse(length, 8),
             _ => self.random.bytes(length),
         };
         self.write(buffer, place, bytes);
+    }
+
+    /// What the panel is told of the flags and totals as they stand.
+    pub fn panel(&mut self) -> Answer {
+        let panel = self.right(Name::Panel);
+        self.make(panel)
+    }
+
+    /// What the panel is told of any flags and totals.
+    pub fn foreign_panel(&mut self) {
+        let (flags, totals) = foreign(&mut self.random, &self.layout);
+        self.write(FLAGS, 0, flags);
+        self.write(TOTALS, 0, totals);
+        self.panel();
+    }
+
+    /// The calls that are lent the totals, with a wrong length of these.
+    pub fn wrong_totals(&mut self) {
+        for name in WITH_TOTALS {
+            for length in wrong_lengths(self.layout.blocks()) {
+                let mut drawn = self.right(name);
+                drawn.lengths.state.totals = length;
+                assert_eq!(self.make(drawn), Answer::Refused(6));
+            }
+        }
     }
 
     /// The record of any place of the schedule, its end most often.
@@ -137,18 +166,19 @@ impl List<'_> {
         self.make(step);
     }
 
-    /// A start and so many steps at most.
+    /// A start and so many steps at most, and what the panel is told then.
     pub fn cycle(&mut self, steps: usize, disturbed: bool) {
         let start = self.right(Name::Start);
         self.make(start);
         self.steps(steps, disturbed);
+        self.panel();
     }
 
     /// So many pieces, with cycles of so many steps at most.
     pub fn pieces(&mut self, pieces: usize, steps: usize) {
         for _ in 0..pieces {
-            match self.random.below(12) {
-                0..=4 => (0..8).for_each(|_| self.one_call()),
+            match self.random.below(13) {
+                0..=4 => (0..9).for_each(|_| self.one_call()),
                 5 | 6 => self.changed_row(),
                 7 => self.forged_step(),
                 8 => self.foreign_bytes(),
@@ -156,7 +186,8 @@ impl List<'_> {
                     self.jump();
                     self.steps(10, false);
                 }
-                10 => self.cycle(steps, true),
+                10 => self.foreign_panel(),
+                11 => self.cycle(steps, true),
                 _ => self.cycle(steps, false),
             }
         }

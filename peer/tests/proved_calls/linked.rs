@@ -57,6 +57,8 @@ linked! {
         counters_length: usize,
         flags: *mut u8,
         flags_length: usize,
+        totals: *mut u8,
+        totals_length: usize,
     ) -> u8;
     fn jorivelune_program(
         words: *mut Words,
@@ -74,6 +76,8 @@ linked! {
         counters_length: usize,
         flags: *mut u8,
         flags_length: usize,
+        totals: *mut u8,
+        totals_length: usize,
     ) -> u8;
     fn jorivelune_step(
         words: *mut Words,
@@ -84,6 +88,8 @@ linked! {
         counters_length: usize,
         flags: *mut u8,
         flags_length: usize,
+        totals: *mut u8,
+        totals_length: usize,
         matches: *mut u8,
         matches_length: usize,
     ) -> u8;
@@ -96,8 +102,20 @@ linked! {
         counters_length: usize,
         flags: *mut u8,
         flags_length: usize,
+        totals: *mut u8,
+        totals_length: usize,
         matches: *mut u8,
         matches_length: usize,
+    ) -> u8;
+    fn jorivelune_panel(
+        shape: Numbers,
+        flags: *const u8,
+        flags_length: usize,
+        totals: *const u8,
+        totals_length: usize,
+        total: *mut usize,
+        first: *mut usize,
+        read: *mut usize,
     ) -> u8;
     fn jorivelune_drift(
         shape: Numbers,

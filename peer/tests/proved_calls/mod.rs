@@ -11,7 +11,7 @@ use std::cmp::Ordering;
 use linked::*;
 use peer::state::Bytes;
 use peer::testing::records::Words;
-use peer::{Answer, Call, Shape, State};
+use peer::{Answer, Call, Panel, Shape, State};
 
 /// Makes a call of the proved library. No answer comes where a value is none
 /// that the call may give.
@@ -35,38 +35,55 @@ pub fn make<S: Bytes, B: Bytes>(
             let (number, count) = lookup(shape, cells, inputs, matches);
             return with_value(number, count, |count| Some(Answer::Count(count)));
         }
+        Call::Panel => {
+            let (number, told) = panel(shape, &state.flags, &state.totals);
+            return with_value(number, told, |told| panel_told(shape, told));
+        }
         Call::FirstMatch { inputs } => {
             let (number, found) = first_match(shape, cells, inputs);
-            return with_value(number, found, |found| row_or_none(shape, found));
+            return with_value(number, found, |found| {
+                row_or_none(shape, found).map(Answer::Row)
+            });
         }
         Call::Sound { row } => {
             let (number, holds) = sound(shape, cells, *row);
-            return with_value(number, holds.into(), yes_or_no);
+            return with_value(number, holds, yes_or_no);
         }
     };
-    with_value(number, 0, |_| Some(Answer::Done))
+    with_value(number, (), |()| Some(Answer::Done))
 }
 
-/// The answer of a call that also gives a value, 0 where it is refused.
-fn with_value(number: u8, value: usize, taken: impl Fn(usize) -> Option<Answer>) -> Option<Answer> {
-    match (number, value) {
-        (0, _) => taken(value),
-        (_, 0) => Some(Answer::Refused(number)),
-        _ => None,
+/// The answer of a call that also gives a value, or several; each is 0 where it
+/// is refused.
+fn with_value<V: Default + PartialEq>(
+    number: u8,
+    value: V,
+    taken: impl Fn(V) -> Option<Answer>,
+) -> Option<Answer> {
+    if number == 0 {
+        taken(value)
+    } else {
+        (value == V::default()).then_some(Answer::Refused(number))
     }
 }
 
 /// A row, or m where there is none.
-fn row_or_none(shape: Shape, found: usize) -> Option<Answer> {
+fn row_or_none(shape: Shape, found: usize) -> Option<Option<usize>> {
     match found.cmp(&shape.rows) {
-        Ordering::Less => Some(Answer::Row(Some(found))),
-        Ordering::Equal => Some(Answer::Row(None)),
+        Ordering::Less => Some(Some(found)),
+        Ordering::Equal => Some(None),
         Ordering::Greater => None,
     }
 }
 
+/// What the panel is told, from total, first row and flags read.
+fn panel_told(shape: Shape, [total, first, read]: [usize; 3]) -> Option<Answer> {
+    let first = row_or_none(shape, first)?;
+    Some(Answer::Panel(Panel { total, first, read }))
+}
+
 /// 1 or 0.
-fn yes_or_no(holds: usize) -> Option<Answer> {
+fn yes_or_no(holds: u8) -> Option<Answer> {
     match holds {
         0 | 1 => Some(Answer::Sound(holds == 1)),
         _ => None,
@@ -88,6 +105,8 @@ pub fn clear(words: &mut Words, shape: Shape, state: State<&mut [u8]>) -> u8 {
             state.counters.len(),
             state.flags.as_mut_ptr(),
             state.flags.len(),
+            state.totals.as_mut_ptr(),
+            state.totals.len(),
         )
     }
 }
@@ -115,6 +134,8 @@ pub fn start(words: &mut Words, shape: Shape, state: State<&mut [u8]>) -> u8 {
             state.counters.len(),
             state.flags.as_mut_ptr(),
             state.flags.len(),
+            state.totals.as_mut_ptr(),
+            state.totals.len(),
         )
     }
 }
@@ -138,6 +159,8 @@ macro_rules! stepping {
                     state.counters.len(),
                     state.flags.as_mut_ptr(),
                     state.flags.len(),
+                    state.totals.as_mut_ptr(),
+                    state.totals.len(),
                     matches.as_mut_ptr(),
                     matches.len(),
                 )
@@ -190,6 +213,25 @@ pub fn lookup(shape: Shape, cells: &[u8], inputs: &[u8], matches: &mut [u8]) -> 
         )
     };
     (number, count)
+}
+
+/// The number, and the sum of the totals, the first flagged row, m where there
+/// is none, and the number of flags read.
+pub fn panel(shape: Shape, flags: &[u8], totals: &[u8]) -> (u8, [usize; 3]) {
+    let [mut total, mut first, mut read] = [usize::MAX; 3];
+    let number = unsafe {
+        jorivelune_panel(
+            shape.into(),
+            flags.as_ptr(),
+            flags.len(),
+            totals.as_ptr(),
+            totals.len(),
+            &mut total,
+            &mut first,
+            &mut read,
+        )
+    };
+    (number, [total, first, read])
 }
 
 /// The number, and the row: m where none matches.

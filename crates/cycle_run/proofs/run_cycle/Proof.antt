@@ -24,23 +24,23 @@ use Rattle.cycle_run.proofs.run_cycle.Tie as tie
 
 -- the memory that is lent, whatever else is in it
 abbrev lent : tie.Start → Memory → Memory
-lent c mem = withAll (c .args .cells .now) (c .args .counters .now) (c .args .flags .now) mem
+lent c mem = withAll (c .args .cells .now) (c .args .counters .now) (c .args .flags .now) (c .args .totals .now) mem
 
 abbrev questions : tie.Start → List Question
 questions c = cycleQuestions (c .args .shape) (lent c noMemory) (c .args .matches .now)
 
 -- the places of the call, of its start and of its steps, each from one that follows
 abbrev begun : tie.After-check-matches → tie.Start
-begun c = c .before .before .before .before .before
+begun c = c .before .before .before .before .before .before
 
 abbrev passed : tie.After-start → tie.After-enum-told
-passed c = c .before .before .before
+passed c = c .before .before .before .before
 
-abbrev opened : tie.After-run-open-arg3 → tie.After-start
-opened c = c .before .before .before .before .before .before .before
+abbrev opened : tie.After-run-open-arg4 → tie.After-start
+opened c = c .before .before .before .before .before .before .before .before .before .before
 
 abbrev ran : tie.After-done → tie.After-run-open
-ran c = c .before .before .before .before .before .before .before
+ran c = c .before .before .before .before .before .before .before .before .before
 
 -- what is known where the questions are passed
 module _ (c : tie.After-enum-told) where
@@ -52,19 +52,14 @@ module _ (c : tie.After-enum-told) where
 
   -- the memory, then the match bytes
   parts :
-      let args = entered .args in
-      MemoryTaken (args .shape) (length (args .cells .now)) (length (args .counters .now)) (length (args .flags .now))
-      × (firstNo (stepArguments (args .shape) (args .matches .now)) ≡ 0)
-  parts =
-      let args = entered .args in
-      memory-taken (args .shape) (length (args .cells .now)) (length (args .counters .now)) (length (args .flags .now))
-      (stepArguments (args .shape) (args .matches .now)) none
+      MemoryTaken (entered .args .shape) (lent entered noMemory) × (firstNo (stepArguments (entered .args .shape) (entered .args .matches .now)) ≡ 0)
+  parts = memory-taken (entered .args .shape) (lent entered noMemory) (stepArguments (entered .args .shape) (entered .args .matches .now)) none
 
   taken : Taken (entered .args .shape)
-  taken = parts .0 .rows .taken
+  taken = parts .0 .taken
 
   sized : Sized (entered .args .shape) (lent entered noMemory)
-  sized = record { cells = parts .0 .cells; counters = parts .0 .rows .counters; flags = parts .0 .rows .flags }
+  sized = parts .0 .sized
 
   matches-sized : length (entered .args .matches .now) ≡ entered .args .shape .rows
   matches-sized = eqb-true (length (entered .args .matches .now)) (entered .args .shape .rows) (first-yes _ 0 6 (lit< tt) (parts .1) .0)
@@ -72,7 +67,9 @@ module _ (c : tie.After-enum-told) where
 -- the state that the start leaves
 module _ (c : tie.After-start) where
   abbrev first : Memory → State
-  first mem = stateOf (withAll (entered (passed c) .args .cells .now) (c .start .last .1 .1 .0) (c .start .last .1 .1 .1 .0) mem) (c .start .result .cycle)
+  first mem =
+      let last = c .start .last .1 .1 in
+      stateOf (withAll (entered (passed c) .args .cells .now) (last .0) (last .1 .0) (last .1 .1 .0) mem) (c .start .result .cycle)
 
   abbrev given : Memory → State
   given mem = stateOf (lent (entered (passed c)) mem) (entered (passed c) .args .cycle)
@@ -127,6 +124,9 @@ same-length-2 c = search needs
 same-length-3 : tie.Need-same-length-3
 same-length-3 c = search needs
 
+same-length-4 : tie.Need-same-length-4
+same-length-4 c = search needs
+
 returns-2 : tie.Need-returns-2
 unfolding cycleCall lastMatches
 returns-2 c =
@@ -138,7 +138,7 @@ returns-2 c =
     λ mem. call-done (questions entry) matches (given begin mem) _ (none (passed begin))
     ∙ ap (λ st. giving (accepted 0) (lastMatches s (lent entry mem)) (runFrom s st (replicate (lookups s) (step matches)))) (left begin mem)
     ∙ ran c .run-open .ensures mem
-    ∙ ap (λ r. changing r (last .1 .1 .0) (withAll (entry .args .cells .now) (last .0) (last .1 .0) mem)) (sym (c .done .ensures))
+    ∙ ap (λ r. changing r (last .1 .1 .1 .0) (withAll (entry .args .cells .now) (last .0) (last .1 .0) (last .1 .1 .0) mem)) (sym (c .done .ensures))
 
 pub run-cycle-spec : {M : Type 1} → statement M
 run-cycle-spec =
@@ -155,4 +155,5 @@ run-cycle-spec =
     same-length
     same-length-2
     same-length-3
+    same-length-4
     returns-2)

@@ -13,29 +13,30 @@ use Rattle.cycle_run.proofs.run_open.Statement.{statement}
 use Rattle.cycle_run.proofs.run_open.Tie as tie
 
 abbrev Inv-loop : tie.InvT-loop
-Inv-loop shape cells counters₀ flags₀ matches₀ now₀ counters flags matches now =
+Inv-loop shape cells counters₀ flags₀ totals₀ matches₀ now₀ counters flags totals matches now =
     (mem : Memory)
-    → Going shape (stateOf (withAll cells counters₀ flags₀ mem) now₀) matches₀ (now .count) (stateOf (withAll cells counters flags mem) now) matches
+    → Going shape (stateOf (withAll cells counters₀ flags₀ totals₀ mem) now₀) matches₀ (now .count)
+    (stateOf (withAll cells counters flags totals mem) now) matches
 
 abbrev μ-loop : tie.MeasureT-loop
-μ-loop shape cells counters₀ flags₀ matches₀ now₀ counters flags matches now = lookups shape - now .count
+μ-loop shape cells counters₀ flags₀ totals₀ matches₀ now₀ counters flags totals matches now = lookups shape - now .count
 
 -- the places of the call, of a turn's begin and of its step, each from one that follows
 abbrev begun : tie.At-loop Inv-loop μ-loop → tie.Start Inv-loop μ-loop
-begun c = c .before .before .before .before .before
+begun c = c .before .before .before .before .before .before
 
 abbrev looped : tie.After-step Inv-loop μ-loop → tie.At-loop Inv-loop μ-loop
-looped c = c .before .before .before .before .before .before
+looped c = c .before .before .before .before .before .before .before
 
 abbrev opened : tie.After-step Inv-loop μ-loop → tie.Then1 Inv-loop μ-loop
-opened c = c .before .before .before .before
+opened c = c .before .before .before .before .before
 
 abbrev stepped : tie.After-now Inv-loop μ-loop → tie.After-step Inv-loop μ-loop
-stepped c = c .before .before .before .before .before .before .before
+stepped c = c .before .before .before .before .before .before .before .before .before
 
 loop-holds : tie.Need-loop-holds Inv-loop μ-loop
 loop-holds c =
-    let start = c .before .before .before .before in
+    let start = c .before .before .before .before .before in
     λ mem. going-start _ (start .pre .0 .0) _ _ (start .pre .1 .1) (start .pre .1 .0) (start .pre .0 .1)
 
 is-open-requires : tie.Need-is-open-requires Inv-loop μ-loop
@@ -50,9 +51,10 @@ turn :
     → let loop = looped c in
     let args = begun loop .args in
     let now = c .step .result .cycle in
+    let left = c .step .last .1 .1 .1 in
     (mem : Memory)
-    → Going (args .shape) (stateOf (withAll (args .cells .now) (args .counters .now) (args .flags .now) mem) (args .cycle)) (args .matches .now) (now .count)
-    (stateOf (withAll (args .cells .now) (c .step .last .1 .1 .1 .0) (c .step .last .1 .1 .1 .1 .0) mem) now) (c .step .last .1 .1 .1 .1 .1 .0)
+    → Going (args .shape) (stateOf (withAll (args .cells .now) (args .counters .now) (args .flags .now) (args .totals .now) mem) (args .cycle)) (args .matches .now)
+    (now .count) (stateOf (withAll (args .cells .now) (left .0) (left .1 .0) (left .1 .1 .0) mem) now) (left .1 .1 .1 .0)
     × (now .count ≡ suc (loop .loop .now .count)) × (loop .loop .now .count < lookups (args .shape))
 turn c =
     let loop = looped c in
@@ -67,13 +69,16 @@ loop-again : tie.Need-loop-again Inv-loop μ-loop
 loop-again c = λ mem. turn (stepped c) mem .0
 
 same-length : tie.Need-same-length Inv-loop μ-loop
-same-length c = let loop = c .before .before in loop .loop .inv noMemory .sized .counters ∙ sym (begun loop .pre .1 .0 .counters)
+same-length c = let loop = c .before .before in loop .loop .inv noMemory .sized .rows .counters ∙ sym (begun loop .pre .1 .0 .rows .counters)
 
 same-length-2 : tie.Need-same-length-2 Inv-loop μ-loop
-same-length-2 c = let loop = c .before .before in loop .loop .inv noMemory .sized .flags ∙ sym (begun loop .pre .1 .0 .flags)
+same-length-2 c = let loop = c .before .before in loop .loop .inv noMemory .sized .rows .flags ∙ sym (begun loop .pre .1 .0 .rows .flags)
 
 same-length-3 : tie.Need-same-length-3 Inv-loop μ-loop
-same-length-3 c = let loop = c .before .before in loop .loop .inv noMemory .buffer ∙ sym (begun loop .pre .1 .1)
+same-length-3 c = let loop = c .before .before in loop .loop .inv noMemory .sized .rows .totals ∙ sym (begun loop .pre .1 .0 .rows .totals)
+
+same-length-4 : tie.Need-same-length-4 Inv-loop μ-loop
+same-length-4 c = let loop = c .before .before in loop .loop .inv noMemory .buffer ∙ sym (begun loop .pre .1 .1)
 
 returns : tie.Need-returns Inv-loop μ-loop
 unfolding lastMatches
@@ -97,4 +102,5 @@ run-open-spec =
     same-length
     same-length-2
     same-length-3
+    same-length-4
     returns)

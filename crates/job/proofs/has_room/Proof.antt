@@ -19,17 +19,24 @@ returns-3 c = rw (lt-leb 4096 (c .before .before .before .args .flags) (c .if3 .
 
 returns-4 : tie.Need-returns-4
 unfolding enough
-returns-4 c = rw (lt-leb 4096 (c .before .before .before .before .args .matches) (c .if4 .taken), and-false)
+returns-4 c = rw (lt-leb 64 (c .before .before .before .before .args .totals) (c .if4 .taken), and-false)
 
 returns-5 : tie.Need-returns-5
 unfolding enough
-returns-5 c =
+returns-5 c = rw (lt-leb 4096 (c .before .before .before .before .before .args .matches) (c .if5 .taken), and-false)
+
+returns-6 : tie.Need-returns-6
+unfolding enough
+returns-6 c =
+    let totalled = c .before in
+    let flagged = totalled .before in
     rw (
-      le-leb 16384 _ (c .before .before .before .if1 .left),
-      le-leb 4096 _ (c .before .before .if2 .left),
-      le-leb 4096 _ (c .before .if3 .left),
-      le-leb 4096 _ (c .if4 .left),
+      le-leb 16384 _ (flagged .before .before .if1 .left),
+      le-leb 4096 _ (flagged .before .if2 .left),
+      le-leb 4096 _ (flagged .if3 .left),
+      le-leb 64 _ (totalled .if4 .left),
+      le-leb 4096 _ (c .if5 .left),
     )
 
 pub has-room-spec : {M : Type 1} → statement M
-has-room-spec = tie.close (tie.spec returns returns-2 returns-3 returns-4 returns-5)
+has-room-spec = tie.close (tie.spec returns returns-2 returns-3 returns-4 returns-5 returns-6)

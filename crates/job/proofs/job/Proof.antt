@@ -13,6 +13,7 @@ use Rattle.parity.specs.declared.Shape.{Shape}
 use Rattle.parity.proofs.Taken.{limits}
 use Rattle.shape.proofs.Refusals.{told, fails, Passes, passes}
 use Rattle.array_memory.specs.Memory.{withAll, noMemory, cellCount}
+use Rattle.array_memory.proofs.BlockPlaces.{blocks-few}
 use Rattle.cycle.specs.Calls.{State, stateOf}
 use Rattle.job_parse.specs.Parse.{jobShape, jobQuestions, jobRefusal}
 use Rattle.job_text.specs.Text.{headText, rowsText}
@@ -28,16 +29,16 @@ use Rattle.job.proofs.job.Tie as tie
 -- ---- the places of the call and of its parts, each from one that follows
 
 abbrev begun : tie.After-has-room → tie.Start
-begun c = c .before .before .before .before .before .before .before
+begun c = c .before .before .before .before .before .before .before .before
 
 abbrev refusing : tie.After-put-refusal-arg → tie.Else1
 refusing c = c .before .before .before .before .before
 
-abbrev shaped : tie.After-run-calls → tie.After-struct-known
-shaped c = c .before .before .before .before .before
+abbrev counted : tie.After-run-calls → tie.After-block-count
+counted c = c .before .before .before .before .before .before
 
 abbrev ran : tie.After-put-head-arg → tie.After-run-calls
-ran c = c .before .before .before .before .before .before .before .before .before
+ran c = c .before .before .before .before .before .before .before .before .before .before .before
 
 abbrev headed : tie.After-put-rows-arg2 → tie.After-put-head
 headed c = c .before .before .before .before
@@ -46,7 +47,7 @@ headed c = c .before .before .before .before
 
 -- the buffers as they are lent
 abbrev lent : tie.Start → Space
-lent c = space (c .args .cells .now) (c .args .counters .now) (c .args .flags .now) (c .args .matches .now) (c .args .out .now)
+lent c = space (c .args .cells .now) (c .args .counters .now) (c .args .flags .now) (c .args .totals .now) (c .args .matches .now) (c .args .out .now)
 
 roomed : (c : tie.After-has-room) (short : Bool) → not (c .has-room .result) ≡ short → roomy (lent (begun c)) ≡ not short
 roomed c short e = sym (c .has-room .ensures) ∙ sym (Bool·not-not (c .has-room .result)) ∙ ap not e
@@ -117,15 +118,18 @@ module _ (c : tie.After-struct-known) where
   matches-fit : s .rows ≤ length (given .matches)
   matches-fit = omega (arith, rows-few, space-long .matches)
 
+totals-fit : (c : tie.After-block-count) → c .block-count .result ≤ length (given (c .before) .totals)
+totals-fit c = omega (arith, c .block-count .ensures, blocks-few (s (c .before) .rows) (rows-few (c .before)), space-long (c .before) .totals)
+
 -- what the run leaves in the parts
 module _ (c : tie.After-run-calls) where
   abbrev h : tie.After-struct-known
-  h = shaped c
+  h = counted c .before
 
   abbrev parts : Space
   parts =
       let last = c .run-calls .last .1 .1 in
-      space (last .0) (last .1 .0) (last .1 .1 .0) (last .1 .1 .1 .0) (given h .out)
+      space (last .0) (last .1 .0) (last .1 .1 .0) (last .1 .1 .1 .0) (last .1 .1 .1 .1 .0) (given h .out)
 
   cells-length : length (parts .cells) ≡ end h
   cells-length = c .run-calls .kept .1 .1 .0 ∙ length-take-le _ _ (cells-fit h)
@@ -136,8 +140,11 @@ module _ (c : tie.After-run-calls) where
   flags-length : length (parts .flags) ≡ s h .rows
   flags-length = c .run-calls .kept .1 .1 .1 .1 .0 ∙ length-take-le _ _ (flags-fit h)
 
+  totals-length : length (parts .totals) ≡ counted c .block-count .result
+  totals-length = c .run-calls .kept .1 .1 .1 .1 .1 .0 ∙ length-take-le _ _ (totals-fit (counted c))
+
   matches-length : length (parts .matches) ≡ s h .rows
-  matches-length = c .run-calls .kept .1 .1 .1 .1 .1 .0 ∙ length-take-le _ _ (matches-fit h)
+  matches-length = c .run-calls .kept .1 .1 .1 .1 .1 .1 .0 ∙ length-take-le _ _ (matches-fit h)
 
   -- the flags as a whole, and their front part
   abbrev flags-now : List ℕ
@@ -151,7 +158,7 @@ module _ (c : tie.After-run-calls) where
 
   -- the state when the calls are over
   abbrev after : State
-  after = stateOf (withAll (parts .cells) (parts .counters) (parts .flags) noMemory) (c .run-calls .result)
+  after = stateOf (withAll (parts .cells) (parts .counters) (parts .flags) (parts .totals) noMemory) (c .run-calls .result)
 
 -- the first line is short, whatever is in it
 line-end : (levels columns count : ℕ) {end : ℕ} {out after : List ℕ} → Wrote 0 (headText levels columns count) out end after → end ≤ 86
@@ -202,39 +209,53 @@ shape-of-requires c κs = omega (arith, job-taken (c .before) .sized)
 mul-end : tie.Need-mul-end
 mul-end c = omega (arith, cells-few c)
 
+block-count-requires : tie.Need-block-count-requires
+block-count-requires c κs = rows-few c
+
 slice-relend-prefix-run-calls : tie.Need-slice-relend-prefix-run-calls
-slice-relend-prefix-run-calls c = cells-fit c
+slice-relend-prefix-run-calls c = cells-fit (c .before)
 
 slice-aggregate-run-calls : tie.Need-slice-aggregate-run-calls
-slice-aggregate-run-calls c = sym (length-take-le _ _ (cells-fit (c .before)))
+slice-aggregate-run-calls c = sym (length-take-le _ _ (cells-fit (c .before .before)))
 
 slice-relend-prefix-run-calls-2 : tie.Need-slice-relend-prefix-run-calls-2
-slice-relend-prefix-run-calls-2 c = counters-fit (c .before)
+slice-relend-prefix-run-calls-2 c = counters-fit (c .before .before)
 
 slice-aggregate-run-calls-2 : tie.Need-slice-aggregate-run-calls-2
-slice-aggregate-run-calls-2 c = sym (length-take-le _ _ (counters-fit (c .before .before)))
+slice-aggregate-run-calls-2 c = sym (length-take-le _ _ (counters-fit (c .before .before .before)))
 
 slice-relend-prefix-run-calls-3 : tie.Need-slice-relend-prefix-run-calls-3
-slice-relend-prefix-run-calls-3 c = flags-fit (c .before .before)
+slice-relend-prefix-run-calls-3 c = flags-fit (c .before .before .before)
 
 slice-aggregate-run-calls-3 : tie.Need-slice-aggregate-run-calls-3
-slice-aggregate-run-calls-3 c = sym (length-take-le _ _ (flags-fit (c .before .before .before)))
+slice-aggregate-run-calls-3 c = sym (length-take-le _ _ (flags-fit (c .before .before .before .before)))
 
 slice-relend-prefix-run-calls-4 : tie.Need-slice-relend-prefix-run-calls-4
-slice-relend-prefix-run-calls-4 c = matches-fit (c .before .before .before)
+slice-relend-prefix-run-calls-4 c = totals-fit (c .before .before .before)
 
 slice-aggregate-run-calls-4 : tie.Need-slice-aggregate-run-calls-4
-slice-aggregate-run-calls-4 c = sym (length-take-le _ _ (matches-fit (c .before .before .before .before)))
+slice-aggregate-run-calls-4 c = sym (length-take-le _ _ (totals-fit (c .before .before .before .before)))
+
+slice-relend-prefix-run-calls-5 : tie.Need-slice-relend-prefix-run-calls-5
+slice-relend-prefix-run-calls-5 c = matches-fit (c .before .before .before .before .before)
+
+slice-aggregate-run-calls-5 : tie.Need-slice-aggregate-run-calls-5
+slice-aggregate-run-calls-5 c = sym (length-take-le _ _ (matches-fit (c .before .before .before .before .before .before)))
 
 run-calls-requires : tie.Need-run-calls-requires
 run-calls-requires c κs =
-    let h = c .before .before .before .before in (
+    let blocks = c .before .before .before .before .before in
+    let h = blocks .before in (
       (none (sized h), h .before .shape-of .ensures),
       (
         record {
           cells = length-take-le _ _ (cells-fit h) ∙ end-is h;
-          counters = length-take-le _ _ (counters-fit h);
-          flags = length-take-le _ _ (flags-fit h);
+          rows =
+              record {
+                counters = length-take-le _ _ (counters-fit h);
+                flags = length-take-le _ _ (flags-fit h);
+                totals = length-take-le _ _ (totals-fit blocks) ∙ blocks .block-count .ensures;
+              };
         },
         length-take-le _ _ (matches-fit h),
       ),
@@ -286,6 +307,9 @@ same-length-5 c = search needs
 same-length-6 : tie.Need-same-length-6
 same-length-6 c = search needs
 
+same-length-7 : tie.Need-same-length-7
+same-length-7 c = search needs
+
 returns-3 : tie.Need-returns-3
 returns-3 c =
     let put = c .before .before in
@@ -297,7 +321,8 @@ returns-3 c =
     ∙ (λ i.
     printed (put .put-rows .result)
     (space (front-written (left .cells) (sp .cells) _ (cells-length r) i) (front-written (left .counters) (sp .counters) _ (counters-length r) i)
-    (front-written (left .flags) (sp .flags) _ (flags-length r) i) (front-written (left .matches) (sp .matches) _ (matches-length r) i)
+    (front-written (left .flags) (sp .flags) _ (flags-length r) i) (front-written (left .totals) (sp .totals) _ (totals-length r) i)
+    (front-written (left .matches) (sp .matches) _ (matches-length r) i)
     (put .put-rows .last .0)))
 
 pub job-spec : {M : Type 1} → statement M
@@ -312,6 +337,7 @@ job-spec =
     enum-known-sizes
     shape-of-requires
     mul-end
+    block-count-requires
     slice-relend-prefix-run-calls
     slice-aggregate-run-calls
     slice-relend-prefix-run-calls-2
@@ -320,6 +346,8 @@ job-spec =
     slice-aggregate-run-calls-3
     slice-relend-prefix-run-calls-4
     slice-aggregate-run-calls-4
+    slice-relend-prefix-run-calls-5
+    slice-aggregate-run-calls-5
     run-calls-requires
     put-head-requires
     slice-reshare-prefix-put-rows
@@ -332,4 +360,5 @@ job-spec =
     same-length-4
     same-length-5
     same-length-6
+    same-length-7
     returns-3)

@@ -31,6 +31,9 @@ slice-aggregate-run-cycle-3 c = search needs
 slice-aggregate-run-cycle-4 : tie.Need-slice-aggregate-run-cycle-4
 slice-aggregate-run-cycle-4 c = search needs
 
+slice-aggregate-run-cycle-5 : tie.Need-slice-aggregate-run-cycle-5
+slice-aggregate-run-cycle-5 c = search needs
+
 run-cycle-requires : tie.Need-run-cycle-requires
 run-cycle-requires c κs = search needs
 
@@ -47,5 +50,6 @@ lookups-made-spec =
     slice-aggregate-run-cycle-2
     slice-aggregate-run-cycle-3
     slice-aggregate-run-cycle-4
+    slice-aggregate-run-cycle-5
     run-cycle-requires
     returns-2)

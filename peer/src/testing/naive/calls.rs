@@ -1,12 +1,14 @@
 //! The calls. A refused one leaves all that is lent as it was.
 
-use super::spec::{questions, record, Spec, Vector};
+use super::panel::{blocks, counts, panel};
+use super::spec::{ends_digit, questions, record, Spec, Vector};
 use super::{all_below, ask};
 use crate::call::{Answer, Call};
 use crate::cycle::{Cycle, Phase};
 use crate::list::Array;
 
-/// The idle record, written out anew: the definitions share the types of the build that they judge, and none of its values.
+/// The idle record, written out anew: the definitions share the types of the
+/// build that they judge, and none of its values.
 const IDLE: Cycle = Cycle {
     phase: Phase::Idle,
     check: 0,
@@ -28,6 +30,7 @@ pub fn make(array: &mut Array, call: &mut Call<Vec<u8>>) -> Answer {
         Call::Start => Answer::done(start(array)),
         Call::Step { matches } => Answer::done(step(array, matches)),
         Call::Run { matches } => Answer::done(run(array, matches)),
+        Call::Panel => Answer::of(panel(array), Answer::Panel),
         Call::FirstMatch { inputs } => Answer::of(first_match(array, inputs), Answer::Row),
         Call::Sound { row } => Answer::of(sound(array, *row), Answer::Sound),
         Call::Read { row, out } => Answer::done(read(array, *row, out)),
@@ -42,18 +45,25 @@ fn ask_cells(array: &Array) -> Result<Spec, u8> {
     Ok(spec)
 }
 
-/// Question 6 for counters and flags.
+/// Question 6 for counters, flags and totals.
 fn ask_rows(array: &Array) -> Result<(), u8> {
     ask(array.state.counters.len() == array.shape.rows, 6)?;
-    ask(array.state.flags.len() == array.shape.rows, 6)
+    ask(array.state.flags.len() == array.shape.rows, 6)?;
+    ask(array.state.totals.len() == blocks(array.shape.rows), 6)
+}
+
+/// Counters, flags and totals all 0.
+fn clear_rows(array: &mut Array) {
+    array.state.counters = vec![0; array.shape.rows];
+    array.state.flags = vec![0; array.shape.rows];
+    array.state.totals = vec![0; blocks(array.shape.rows)];
 }
 
 fn clear(array: &mut Array) -> Result<(), u8> {
     let spec = ask_cells(array)?;
     ask_rows(array)?;
     array.state.cells = vec![0; spec.cells()];
-    array.state.counters = vec![0; array.shape.rows];
-    array.state.flags = vec![0; array.shape.rows];
+    clear_rows(array);
     array.cycle = IDLE;
     Ok(())
 }
@@ -90,8 +100,7 @@ fn lookup(array: &Array, inputs: &[u8], matches: &mut Vec<u8>) -> Result<usize, 
 fn start(array: &mut Array) -> Result<(), u8> {
     let spec = questions(array.shape)?;
     ask_rows(array)?;
-    array.state.counters = vec![0; array.shape.rows];
-    array.state.flags = vec![0; array.shape.rows];
+    clear_rows(array);
     array.cycle = record(&spec.schedule(), 0);
     Ok(())
 }
@@ -135,12 +144,13 @@ fn close(schedule: &[Vector], count: usize, array: &mut Array) {
     let now = schedule[count];
     let next = schedule.get(count + 1);
     let rows = array.shape.rows;
-    if next.is_none_or(|next| (next.check, next.digit) != (now.check, now.digit)) {
+    if ends_digit(schedule, count) {
         for row in 0..rows {
             if array.state.counters[row] != 0 {
                 array.state.flags[row] = 1;
             }
         }
+        array.state.totals = counts(&array.state.flags);
     }
     if next.is_none_or(|next| next.check != now.check) {
         array.state.counters = vec![0; rows];

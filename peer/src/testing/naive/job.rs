@@ -1,6 +1,7 @@
 //! The job program.
 
 use super::calls::step_with;
+use super::panel::blocks;
 use super::spec::{questions, record, Spec};
 use super::{all_below, ask};
 use crate::cycle::Phase;
@@ -76,6 +77,7 @@ fn cycle_flags(spec: &Spec, cells: Vec<u8>) -> Vec<u8> {
             cells,
             counters: vec![0; spec.shape.rows],
             flags: vec![0; spec.shape.rows],
+            totals: vec![0; blocks(spec.shape.rows)],
         },
         cycle: record(&schedule, 0),
     };

@@ -4,6 +4,7 @@
 
 pub mod calls;
 pub mod job;
+pub mod panel;
 pub mod spec;
 
 /// Yes goes on, no gives the number.

@@ -215,6 +215,14 @@ fn match_line(row: &[u8], inputs: &[u8]) -> u8 {
     u8::from(!no)
 }
 
+/// Whether the vector with the given number in the schedule is the last one of
+/// its check and digit, so that its step looks for rows to flag.
+pub fn ends_digit(schedule: &[Vector], count: usize) -> bool {
+    let now = schedule[count];
+    let next = schedule.get(count + 1);
+    next.is_none_or(|next| (next.check, next.digit) != (now.check, now.digit))
+}
+
 /// The record before the vector with the given number in the schedule.
 pub fn record(schedule: &[Vector], count: usize) -> Cycle {
     match schedule.get(count) {

@@ -12,11 +12,11 @@ use borrow.Author.Needs.{needs}
 use borrow.Author.Tests.{lt-ltb, le-ltb, not-true, not-false}
 use Rattle.parity.specs.Lists.{firstFrom}
 use Rattle.parity.specs.Match.{matchByte}
-use Rattle.shape.specs.Answers.{row, none, accepted}
+use Rattle.shape.specs.Answers.{row, none, rowOrNone, accepted}
 use Rattle.shape.proofs.Search.{searched, search-found, search-missed, search-ended}
 use Rattle.acam.proofs.Comparison.{compared, compare-fails, compare-passes, compare-ended}
 use Rattle.array_memory.proofs.RowPlaces.{row-fits}
-use Rattle.array_lookup.specs.Lookups.{rowOrNone, firstRow}
+use Rattle.array_lookup.specs.Lookups.{firstRow}
 use Rattle.array_lookup.proofs.RowBytes.{byteOf}
 use Rattle.array_lookup.proofs.first.find_match.Statement.{statement}
 use Rattle.array_lookup.proofs.first.find_match.Tie as tie

@@ -10,13 +10,13 @@ use Rattle.parity.specs.Match.{taskVector}
 use Rattle.parity.specs.Shape.{columns}
 use Rattle.parity.specs.Questions.{Question, firstNo}
 use Rattle.parity.proofs.Taken.{limits}
-use Rattle.shape.specs.Answers.{Found, none, accepted, refused, answering}
+use Rattle.shape.specs.Answers.{Found, none, rowOrNone, accepted, refused, answering}
 use Rattle.shape.proofs.Refusals.{told, Passes, passes, fails}
 use Rattle.shape.proofs.Calling.{if-no}
 use Rattle.shape.proofs.Search.{search-same}
 use Rattle.array_memory.specs.Geometry.{rowMatch}
 use Rattle.array_memory.specs.Questions.{cellsQuestions}
-use Rattle.array_lookup.specs.Lookups.{inputArguments, lookupArguments, rowOrNone, firstRow, firstCall}
+use Rattle.array_lookup.specs.Lookups.{inputArguments, lookupArguments, firstRow, firstCall}
 use Rattle.array_lookup.proofs.RowBytes.{inputs-fit, rows-fit, task-byte}
 use Rattle.array_lookup.proofs.Asked.{LookupTaken, lookup-taken}
 use Rattle.array_lookup.proofs.first.first_match.Statement.{statement}

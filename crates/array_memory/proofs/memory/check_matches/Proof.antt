@@ -11,7 +11,7 @@ use Rattle.array_memory.proofs.memory.check_matches.Tie as tie
 
 -- what was asked before, and what is asked here
 abbrev first : tie.Start → List Question
-first c = callQuestions (c .args .shape) [] (memoryLengths (c .args .shape) (c .args .cells) (c .args .counters) (c .args .flags)) []
+first c = callQuestions (c .args .shape) [] (memoryLengths (c .args .shape) (c .args .cells) (c .args .counters) (c .args .flags) (c .args .totals)) []
 
 abbrev more : tie.Start → List Question
 more c = lengthQuestion (c .args .matches) (c .args .shape .rows) ∷ []

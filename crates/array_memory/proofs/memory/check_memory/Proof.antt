@@ -14,7 +14,7 @@ use Rattle.array_memory.proofs.memory.check_memory.Tie as tie
 
 -- what was asked before, and what is asked here
 abbrev first : tie.Start → List Question
-first c = callQuestions (c .args .shape) [] (rowsLengths (c .args .shape) (c .args .counters) (c .args .flags)) []
+first c = callQuestions (c .args .shape) [] (rowsLengths (c .args .shape) (c .args .counters) (c .args .flags) (c .args .totals)) []
 
 abbrev more : tie.Start → List Question
 more c = cellsLength (c .args .shape) (c .args .cells) ∷ []
@@ -31,7 +31,7 @@ module _ (c : tie.After-sizes) where
   unfolding shapeRefusal
   shape-taken =
       let args = begun c .args in
-      first-none (shapeQuestions (args .shape)) (rowsLengths (args .shape) (args .counters) (args .flags)) refl (rows-taken .none) .0
+      first-none (shapeQuestions (args .shape)) (rowsLengths (args .shape) (args .counters) (args .flags) (args .totals)) refl (rows-taken .none) .0
 
   -- the product that the code asks for is m × n
   counted : begun c .args .shape .rows * c .sizes .given .0 .0 .columns ≡ cellCount (begun c .args .shape)

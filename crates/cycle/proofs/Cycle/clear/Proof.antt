@@ -6,8 +6,8 @@ use lib.ListN.{length, replicate}
 use borrow.Author.Needs.{needs}
 use Rattle.parity.specs.Questions.{Question, firstNo}
 use Rattle.shape.proofs.Refusals.{told, fails, passes}
-use Rattle.array_memory.specs.Memory.{Memory, withAll, noMemory}
-use Rattle.array_memory.proofs.Asked.{MemoryTaken, memory-taken}
+use Rattle.array_memory.specs.Memory.{Memory, withAll, noMemory, Sized}
+use Rattle.array_memory.proofs.Asked.{memory-taken}
 use Rattle.cycle.specs.Record.{idle}
 use Rattle.cycle.specs.Calls.{zeroRows, cleared, clearQuestions, clearCall}
 use Rattle.cycle.proofs.Given.{gives-refusal, gives-done}
@@ -16,30 +16,31 @@ use Rattle.cycle.proofs.Cycle.clear.Tie as tie
 
 -- the memory that is lent, whatever else is in it
 abbrev lent : tie.Start → Memory → Memory
-lent c mem = withAll (c .args .cells .now) (c .args .counters .now) (c .args .flags .now) mem
+lent c mem = withAll (c .args .cells .now) (c .args .counters .now) (c .args .flags .now) (c .args .totals .now) mem
 
 abbrev questions : tie.Start → List Question
 questions c = clearQuestions (c .args .shape) (lent c noMemory)
 
--- the call's place, from that where the questions are passed
+-- the call's place, from those where the questions are asked and where they are passed
+abbrev entry : tie.After-check-memory → tie.Start
+entry c = c .before .before .before .before .before
+
 abbrev begun : tie.After-enum-told → tie.Start
-begun c = c .before .before .before .before .before .before
+begun c = entry (c .before .before)
 
 -- the places of the two fills, from the end
 abbrev reset : tie.After-done → tie.After-reset-rows
-reset c = c .before .before .before .before .before
+reset c = c .before .before .before .before .before .before .before
 
 abbrev filled : tie.After-reset-rows → tie.After-fill
-filled c = c .before .before .before .before .before
+filled c = c .before .before .before .before .before .before
 
 module _ (c : tie.After-enum-told) where
   none : firstNo (questions (begun c)) ≡ 0
   none = passes (questions (begun c)) (begun c .args .shape) _ (told (c .before .before .check-memory .ensures) (c .enum-told .given .1)) .none
 
-  given : let args = begun c .args in MemoryTaken (args .shape) (length (args .cells .now)) (length (args .counters .now)) (length (args .flags .now))
-  given =
-      let args = begun c .args in
-      memory-taken (args .shape) (length (args .cells .now)) (length (args .counters .now)) (length (args .flags .now)) [] none .0
+  sized : Sized (begun c .args .shape) (lent (begun c) noMemory)
+  sized = memory-taken (begun c .args .shape) (lent (begun c) noMemory) [] none .0 .sized
 
 check-memory-requires : tie.Need-check-memory-requires
 check-memory-requires c κs = search needs
@@ -66,7 +67,7 @@ returns : tie.Need-returns
 unfolding clearCall
 returns c =
     let asked = c .before .before .before .before in
-    let start = asked .before .before .before .before in
+    let start = entry asked in
     let number = c .before .before .number .given in
     λ mem. gives-refusal (questions start) [] (lent start mem) (start .args .self) _ _ (number .0 .0)
     (fails (questions start) (start .args .shape) (number .0 .0) (told (asked .check-memory .ensures) (number .1))) (c .refused .ensures)
@@ -80,6 +81,9 @@ same-length-2 c = search needs
 same-length-3 : tie.Need-same-length-3
 same-length-3 c = search needs
 
+same-length-4 : tie.Need-same-length-4
+same-length-4 c = search needs
+
 returns-2 : tie.Need-returns-2
 unfolding clearCall cleared zeroRows
 returns-2 c =
@@ -87,13 +91,14 @@ returns-2 c =
     let cells-filled = filled rows in
     let told = cells-filled .before .before in
     let start = begun told in
-    let p = given told in
+    let z = sized told in
     let zeros : ℕ → List ℕ = λ n. replicate n 0 in
-    let cells = cells-filled .fill .ensures ∙ ap zeros (p .cells) in
-    let counters = rows .reset-rows .ensures .0 ∙ ap zeros (p .rows .counters) in
-    let flags = rows .reset-rows .ensures .1 ∙ ap zeros (p .rows .flags) in
+    let cells = cells-filled .fill .ensures ∙ ap zeros (z .cells) in
+    let counters = rows .reset-rows .ensures .0 ∙ ap zeros (z .rows .counters) in
+    let flags = rows .reset-rows .ensures .1 .0 ∙ ap zeros (z .rows .flags) in
+    let totals = rows .reset-rows .ensures .1 .1 ∙ ap zeros (z .rows .totals) in
     λ mem. gives-done (questions start) [] (lent start mem) (start .args .self) _ [] [] _ _ idle idle (none told) (c .done .ensures) refl
-    (sym (λ i. withAll (cells i) (counters i) (flags i) mem)) refl
+    (sym (λ i. withAll (cells i) (counters i) (flags i) (totals i) mem)) refl
 
 pub clear-spec : {M : Type 1} → statement M
 clear-spec =
@@ -110,4 +115,5 @@ clear-spec =
     same-length
     same-length-2
     same-length-3
+    same-length-4
     returns-2)

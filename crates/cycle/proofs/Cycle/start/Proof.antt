@@ -1,4 +1,4 @@
--- `cycle::Cycle::start` meets its contract: `check_rows` asks, counters and flags are filled with 0, and the record is that of the first lookup.
+-- `cycle::Cycle::start` meets its contract: `check_rows` asks, counters, flags and totals are filled with 0, and the record is that of the first lookup.
 -- Assumes nothing.
 use mathlib.Core.Path.{refl, sym, ap, _∙_}
 use mathlib.Core.List.{List, []}
@@ -18,27 +18,30 @@ use Rattle.cycle.proofs.Cycle.start.Tie as tie
 
 -- the memory that is lent, whatever else is in it
 abbrev lent : tie.Start → Memory → Memory
-lent c mem = withRows (c .args .counters .now) (c .args .flags .now) mem
+lent c mem = withRows (c .args .counters .now) (c .args .flags .now) (c .args .totals .now) mem
 
 abbrev questions : tie.Start → List Question
 questions c = startQuestions (c .args .shape) (lent c noMemory)
 
--- the places of the call, of the sizes and of the two fills, each from one that follows
+-- the places of the call, of the sizes and of the buffers' reset, each from one that follows
+abbrev entry : tie.After-check-rows → tie.Start
+entry c = c .before .before .before .before
+
 abbrev begun : tie.After-sizes → tie.Start
-begun c = c .before .before .before .before .before
+begun c = entry (c .before .before)
 
 abbrev filled : tie.After-matrix-of → tie.After-reset-rows
-filled c = c .before .before .before .before .before
+filled c = c .before .before .before .before .before .before .before
 
 abbrev sized : tie.After-reset-rows → tie.After-sizes
-sized c = c .before .before .before .before
+sized c = c .before .before .before .before .before
 
 module _ (c : tie.After-sizes) where
   asked : Passes (questions (begun c)) (begun c .args .shape) (c .sizes .given .0 .0)
   asked = passes _ _ _ (told (c .before .before .check-rows .ensures) (c .sizes .given .1))
 
-  given : let args = begun c .args in RowsTaken (args .shape) (length (args .counters .now)) (length (args .flags .now))
-  given = let args = begun c .args in rows-taken (args .shape) (length (args .counters .now)) (length (args .flags .now)) [] (asked .none) .0
+  given : RowsTaken (begun c .args .shape) (lent (begun c) noMemory)
+  given = rows-taken (begun c .args .shape) (lent (begun c) noMemory) [] (asked .none) .0
 
 matrix-lent :
     (c : tie.After-matrix-of)
@@ -65,7 +68,7 @@ reset-rows-requires c κs = search needs
 
 matrix-of-requires : tie.Need-matrix-of-requires
 matrix-of-requires c κs =
-    let sizes = sized (c .before .before .before .before) in
+    let sizes = sized (c .before .before .before .before .before .before) in
     (given sizes .taken, ap (λ z. z .checks) (asked sizes .sizes))
 
 array-share-prefix-matrix : tie.Need-array-share-prefix-matrix
@@ -84,7 +87,7 @@ returns : tie.Need-returns
 unfolding startCall
 returns c =
     let asked = c .before .before .before .before in
-    let start = asked .before .before .before in
+    let start = entry asked in
     let number = c .before .before .number .given in
     λ mem. gives-refusal (questions start) [] (lent start mem) (start .args .self) _ _ (number .0 .0)
     (fails (questions start) (start .args .shape) (number .0 .0) (told (asked .check-rows .ensures) (number .1))) (c .refused .ensures)
@@ -95,18 +98,22 @@ same-length c = search needs
 same-length-2 : tie.Need-same-length-2
 same-length-2 c = search needs
 
+same-length-3 : tie.Need-same-length-3
+same-length-3 c = search needs
+
 returns-2 : tie.Need-returns-2
 unfolding startCall started zeroRows
 returns-2 c =
     let reset = filled (c .before .before .before) in
     let sizes = sized reset in
     let start = begun sizes in
-    let p = given sizes in
+    let z = given sizes .sized in
     let zeros : ℕ → List ℕ = λ n. replicate n 0 in
-    let counters = reset .reset-rows .ensures .0 ∙ ap zeros (p .counters) in
-    let flags = reset .reset-rows .ensures .1 ∙ ap zeros (p .flags) in
+    let counters = reset .reset-rows .ensures .0 ∙ ap zeros (z .counters) in
+    let flags = reset .reset-rows .ensures .1 .0 ∙ ap zeros (z .flags) in
+    let totals = reset .reset-rows .ensures .1 .1 ∙ ap zeros (z .totals) in
     λ mem. gives-done (questions start) [] (lent start mem) (start .args .self) _ [] [] _ _ (cycleAt (start .args .shape) 0) _ (asked sizes .none)
-    (c .done .ensures) refl (sym (λ i. withRows (counters i) (flags i) mem)) (sym (c .before .first .ensures))
+    (c .done .ensures) refl (sym (λ i. withRows (counters i) (flags i) (totals i) mem)) (sym (c .before .first .ensures))
 
 pub start-spec : {M : Type 1} → statement M
 start-spec =
@@ -125,4 +132,5 @@ start-spec =
     returns
     same-length
     same-length-2
+    same-length-3
     returns-2)

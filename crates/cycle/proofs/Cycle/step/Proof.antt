@@ -1,29 +1,29 @@
 -- `cycle::Cycle::step` meets its contract: `check_matches` asks up to 6, and `step_lent` does the rest. Assumes nothing.
 use mathlib.Core.List.{List, [], _∷_}
-use lib.ListN.{length}
 use borrow.Author.Needs.{needs}
 use Rattle.parity.specs.Questions.{Question, callQuestions}
 use Rattle.shape.proofs.Refusals.{told, fails, Passes, passes, first-found}
-use Rattle.array_memory.specs.Memory.{withAll, lookupLengths}
+use Rattle.array_memory.specs.Memory.{Memory, withAll, noMemory}
 use Rattle.cycle.specs.Record.{cycleQuestion}
-use Rattle.cycle.specs.Calls.{stepCall}
+use Rattle.cycle.specs.Calls.{lentQuestions, stepCall}
 use Rattle.cycle.proofs.Given.{gives-refusal}
 use Rattle.cycle.proofs.Cycle.step.Statement.{statement}
 use Rattle.cycle.proofs.Cycle.step.Tie as tie
 
+-- the memory that is lent, whatever else is in it
+abbrev lent : tie.Start → Memory → Memory
+lent c mem = withAll (c .args .cells .now) (c .args .counters .now) (c .args .flags .now) (c .args .totals .now) mem
+
 -- the questions up to 6, and 9
 abbrev first : tie.Start → List Question
-first c =
-    let args = c .args in
-    callQuestions (args .shape) []
-    (lookupLengths (args .shape) (length (args .cells .now)) (length (args .counters .now)) (length (args .flags .now)) (length (args .matches .now))) []
+first c = callQuestions (c .args .shape) [] (lentQuestions (c .args .shape) (lent c noMemory) (c .args .matches .now)) []
 
 abbrev more : tie.Start → List Question
 more c = cycleQuestion (c .args .shape) (c .args .self) ∷ []
 
 -- the call's place, from that of its questions
 abbrev begun : tie.After-check-matches → tie.Start
-begun c = c .before .before .before .before .before
+begun c = c .before .before .before .before .before .before
 
 asked : (c : tie.After-sizes) → Passes (first (begun (c .before .before))) (begun (c .before .before) .args .shape) (c .sizes .given .0 .0)
 asked c = passes _ _ _ (told (c .before .before .check-matches .ensures) (c .sizes .given .1))
@@ -41,7 +41,7 @@ enum-known-sizes : tie.Need-enum-known-sizes
 enum-known-sizes c = search needs
 
 step-lent-requires : tie.Need-step-lent-requires
-step-lent-requires c κs = let p = asked (c .before .before .before .before) in (p .none, p .sizes)
+step-lent-requires c κs = let p = asked (c .before .before .before .before .before) in (p .none, p .sizes)
 
 returns : tie.Need-returns
 unfolding stepCall
@@ -52,7 +52,7 @@ returns c =
     let args = start .args in
     let number = known .number .given in
     let no = fails (first start) (args .shape) (number .0 .0) (told (asked .check-matches .ensures) (number .1)) in
-    λ mem. gives-refusal _ (args .matches .now) (withAll (args .cells .now) (args .counters .now) (args .flags .now) mem) (args .self) _ _ (number .0 .0)
+    λ mem. gives-refusal _ (args .matches .now) (lent start mem) (args .self) _ _ (number .0 .0)
     (first-found (first start) (more start) (number .0 .0) (no .1) (no .0), no .1) (c .refused .ensures)
 
 same-length : tie.Need-same-length
@@ -64,9 +64,12 @@ same-length-2 c = search needs
 same-length-3 : tie.Need-same-length-3
 same-length-3 c = search needs
 
+same-length-4 : tie.Need-same-length-4
+same-length-4 c = search needs
+
 -- what the step on the lent buffers says
-abbrev stepped : tie.After-slice-known6 → tie.After-step-lent
-stepped c = c .before .before .before .before .before .before
+abbrev stepped : tie.After-slice-known8 → tie.After-step-lent
+stepped c = c .before .before .before .before .before .before .before .before
 
 returns-2 : tie.Need-returns-2
 returns-2 c = stepped c .step-lent .ensures
@@ -84,4 +87,5 @@ step-spec =
     same-length
     same-length-2
     same-length-3
+    same-length-4
     returns-2)

@@ -9,14 +9,14 @@ use lib.Dec.{lit<}
 use lib.ListN.{length}
 use borrow.Author.Needs.{needs}
 use borrow.Author.Tests.{eqb-true}
-use Rattle.parity.specs.Questions.{Question, firstNo, callQuestions, lengthQuestion, Taken}
+use Rattle.parity.specs.Questions.{Question, firstNo, callQuestions, Taken}
 use Rattle.parity.proofs.Taken.{first-yes}
 use Rattle.shape.proofs.Refusals.{first-rest}
-use Rattle.array_memory.specs.Memory.{Memory, withRows, withAll, lookupLengths}
+use Rattle.array_memory.specs.Memory.{Memory, withRows, withAll, noMemory}
 use Rattle.array_memory.proofs.Asked.{MemoryTaken, memory-taken}
 use Rattle.cycle.specs.Record.{cycleAt, isNext, cycleQuestion}
 use Rattle.cycle.specs.Places.{standingAt}
-use Rattle.cycle.specs.Calls.{stepped, stepCall}
+use Rattle.cycle.specs.Calls.{stepArguments, lentQuestions, stepped, stepCall}
 use Rattle.cycle.specs.declared.place.Standing.{Standing}
 use Rattle.cycle.specs.declared.place.Located.the-variants.{At, Elsewhere}
 use Rattle.cycle.proofs.MatrixPart.{Part, columns-part}
@@ -26,14 +26,11 @@ use Rattle.cycle.proofs.Cycle.step_lent.Tie as tie
 
 -- the memory that is lent, whatever else is in it
 abbrev lent : tie.Start → Memory → Memory
-lent c mem = withAll (c .args .cells .now) (c .args .counters .now) (c .args .flags .now) mem
+lent c mem = withAll (c .args .cells .now) (c .args .counters .now) (c .args .flags .now) (c .args .totals .now) mem
 
 -- the questions up to 6, and 9
 abbrev first : tie.Start → List Question
-first c =
-    let args = c .args in
-    callQuestions (args .shape) []
-    (lookupLengths (args .shape) (length (args .cells .now)) (length (args .counters .now)) (length (args .flags .now)) (length (args .matches .now))) []
+first c = callQuestions (c .args .shape) [] (lentQuestions (c .args .shape) (lent c noMemory) (c .args .matches .now)) []
 
 abbrev more : tie.Start → List Question
 more c = cycleQuestion (c .args .shape) (c .args .self) ∷ []
@@ -49,30 +46,25 @@ missed false at e = refl
 
 -- the places of the call, of the matrix and of the lookup
 abbrev begun : tie.After-matrix-of → tie.Start
-begun c = c .before .before .before .before .before
+begun c = c .before .before .before .before .before .before
 
 abbrev made : tie.After-locate → tie.After-matrix-of
 made c = c .before .before
 
-abbrev lending : tie.After-look-and-count-arg3 → tie.After-standing
-lending c = c .before .before .before .before .before
+abbrev lending : tie.After-look-and-count-arg4 → tie.After-standing
+lending c = c .before .before .before .before .before .before
 
 abbrev looked : tie.After-done → tie.After-look-and-count
-looked c = c .before .before .before .before .before .before .before
+looked c = c .before .before .before .before .before .before .before .before .before
 
 -- ---- what is given
 
 module _ (c : tie.Start) where
-  parts :
-      MemoryTaken (c .args .shape) (length (c .args .cells .now)) (length (c .args .counters .now)) (length (c .args .flags .now))
-      × (firstNo (lengthQuestion (length (c .args .matches .now)) (c .args .shape .rows) ∷ []) ≡ 0)
-  parts =
-      let args = c .args in
-      memory-taken (args .shape) (length (args .cells .now)) (length (args .counters .now)) (length (args .flags .now))
-      (lengthQuestion (length (args .matches .now)) (args .shape .rows) ∷ []) (c .pre .0)
+  parts : MemoryTaken (c .args .shape) (lent c noMemory) × (firstNo (stepArguments (c .args .shape) (c .args .matches .now)) ≡ 0)
+  parts = memory-taken (c .args .shape) (lent c noMemory) (stepArguments (c .args .shape) (c .args .matches .now)) (c .pre .0)
 
   taken : Taken (c .args .shape)
-  taken = parts .0 .rows .taken
+  taken = parts .0 .taken
 
   matches-sized : length (c .args .matches .now) ≡ c .args .shape .rows
   matches-sized = eqb-true (length (c .args .matches .now)) (c .args .shape .rows) (first-yes _ 0 6 (lit< tt) (parts .1) .0)
@@ -89,7 +81,7 @@ place-found c = found _ _ _ (sym (c .before .before .locate .ensures) ∙ c .sta
 -- ---- the needs
 
 matrix-of-requires : tie.Need-matrix-of-requires
-matrix-of-requires c κs = let start = c .before .before .before .before in (taken start, ap (λ z. z .checks) (start .pre .1))
+matrix-of-requires c κs = let start = c .before .before .before .before .before in (taken start, ap (λ z. z .checks) (start .pre .1))
 
 array-share-prefix-matrix : tie.Need-array-share-prefix-matrix
 array-share-prefix-matrix c = matrix-lent c .within
@@ -120,10 +112,7 @@ look-and-count-requires : tie.Need-look-and-count-requires
 look-and-count-requires c κs =
     let standing = lending c in
     let start = begun (made (standing .before .before)) in
-    let p = parts start .0 in (
-      (taken start, ap (λ z. z .columns) (start .pre .1), place-found standing),
-      (p .cells, p .rows .counters, p .rows .flags, matches-sized start),
-    )
+    ((taken start, ap (λ z. z .columns) (start .pre .1), place-found standing), (parts start .0 .sized, matches-sized start))
 
 done-requires : tie.Need-done-requires
 done-requires c κs = search needs
@@ -148,18 +137,21 @@ same-length-2 c = search needs
 same-length-3 : tie.Need-same-length-3
 same-length-3 c = search needs
 
+same-length-4 : tie.Need-same-length-4
+same-length-4 c = search needs
+
 returns-2 : tie.Need-returns-2
 unfolding stepCall stepped
 returns-2 c =
     let counted = looked c in
-    let advanced = counted .before .before .before .before in
+    let advanced = counted .before .before .before .before .before in
     let standing = advanced .before .before in
     let start = begun (made (standing .before .before)) in
     let args = start .args in
     let own : firstNo (more start) ≡ 0 = rw (place-found standing .0) refl in
     λ mem. gives-done _ (args .matches .now) (lent start mem) (args .self) _ _ _ _ _ (cycleAt (args .shape) (suc (args .self .count))) _
     (first-rest (first start) (more start) refl (start .pre .0) ∙ own) (c .done .ensures)
-    (counted .look-and-count .ensures .0 (withRows (args .counters .now) (args .flags .now) mem)) (counted .look-and-count .ensures .1 mem)
+    (counted .look-and-count .ensures .0 (withRows (args .counters .now) (args .flags .now) (args .totals .now) mem)) (counted .look-and-count .ensures .1 mem)
     (sym (advanced .advance .ensures))
 
 pub step-lent-spec : {M : Type 1} → statement M
@@ -180,4 +172,5 @@ step-lent-spec =
     same-length
     same-length-2
     same-length-3
+    same-length-4
     returns-2)

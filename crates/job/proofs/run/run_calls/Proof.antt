@@ -1,7 +1,8 @@
 -- `job::run::run_calls` meets its contract: each call leaves what the next one finds, and all of them the state of the job. Assumes nothing.
-use mathlib.Core.Path.{refl, sym, _∙_, ap, subst}
+use mathlib.Core.Path.{_≡_, refl, sym, _∙_, ap, subst}
 use Prim.Native.Nat.{_+_, _*_, _≤_}
 use native.Mathlib.Omega.{arith}
+use lib.ListN.{length}
 use borrow.Author.Needs.{needs}
 use Rattle.parity.specs.Questions.{Taken}
 use Rattle.array_memory.specs.Memory.{Memory, withCells, withRows, noMemory, Sized}
@@ -13,22 +14,22 @@ use Rattle.job.proofs.run.run_calls.Tie as tie
 
 -- the places of the call and of its parts, each from one that follows
 abbrev entered : tie.After-struct-known → tie.Start
-entered c = c .before .before .before .before .before .before
+entered c = c .before .before .before .before .before .before .before
 
 abbrev begun : tie.After-clear → tie.Start
-begun c = entered (c .before .before .before .before)
+begun c = entered (c .before .before .before .before .before)
 
 abbrev cleared : tie.After-program-rows → tie.After-clear
-cleared c = c .before .before .before .before .before .before .before .before
+cleared c = c .before .before .before .before .before .before .before .before .before .before
 
 abbrev programmed : tie.After-drift-cells → tie.After-program-rows
 programmed c = c .before .before .before .before
 
 abbrev drifted : tie.After-run-cycle → tie.After-drift-cells
-drifted c = c .before .before .before .before .before .before .before
+drifted c = c .before .before .before .before .before .before .before .before
 
 abbrev ran : tie.After-result → tie.After-run-cycle
-ran c = c .before .before .before .before .before .before .before
+ran c = c .before .before .before .before .before .before .before .before .before
 
 -- the shape is taken, and the levels are few enough to be counted
 taken : (c : tie.Start) → Taken (c .args .shape)
@@ -39,7 +40,15 @@ few c = levels-fit (c .args .shape) (taken c)
 
 -- what the clear leaves beside the cells
 abbrev rest : tie.After-clear → Memory
-rest c = withRows (c .clear .last .1 .1 .1 .0) (c .clear .last .1 .1 .1 .1 .0) noMemory
+rest c = let left = c .clear .last .1 .1 .1 in withRows (left .0) (left .1 .0) (left .1 .1 .0) noMemory
+
+-- the cells are as many as they were
+cells-kept :
+    (c : tie.After-drift-cells)
+    → length (c .drift-cells .last .1 .1 .1 .0) ≡ length (begun (cleared (programmed c)) .args .cells .now)
+cells-kept c =
+    let program = programmed c in
+    c .drift-cells .kept .1 .1 .1 .0 ∙ program .program-rows .kept .1 .1 .0 ∙ cleared program .clear .kept .1 .1 .0
 
 mul-from : tie.Need-mul-from
 mul-from c = omega (arith, few (entered c))
@@ -62,16 +71,19 @@ run-cycle-requires : tie.Need-run-cycle-requires
 run-cycle-requires c κs = search needs
 
 same-length : tie.Need-same-length
-same-length c = search needs
+same-length c = cells-kept (drifted (ran c))
 
 same-length-2 : tie.Need-same-length-2
-same-length-2 c = search needs
+same-length-2 c = let cycle = ran c in cycle .run-cycle .kept .1 .1 .1 .0 ∙ cleared (programmed (drifted cycle)) .clear .kept .1 .1 .1 .0
 
 same-length-3 : tie.Need-same-length-3
 same-length-3 c = search needs
 
 same-length-4 : tie.Need-same-length-4
 same-length-4 c = search needs
+
+same-length-5 : tie.Need-same-length-5
+same-length-5 c = search needs
 
 returns : tie.Need-returns
 returns c =
@@ -86,16 +98,23 @@ returns c =
     let sizes = start .pre .1 in
     let first = withCells (clear .last .1 .1 .0) (rest after) in
     let last = withCells (drift .last .1 .1 .1 .0) (rest after) in
+    let kept = clear .kept .1 .1 .1 in
+    let left = cycle .last .1 .1 .1 in
     let sized : Sized s last =
     record {
-      cells = drift .kept .1 .1 .1 .0 ∙ program .kept .1 .1 .0 ∙ clear .kept .1 .1 .0 ∙ sizes .0 .cells;
-      counters = clear .kept .1 .1 .1 .0 ∙ sizes .0 .counters;
-      flags = clear .kept .1 .1 .1 .1 .0 ∙ sizes .0 .flags;
+      cells = cells-kept (drifted (ran c)) ∙ sizes .0 .cells;
+      rows =
+          record {
+            counters = kept .0 ∙ sizes .0 .rows .counters;
+            flags = kept .1 .0 ∙ sizes .0 .rows .flags;
+            totals = kept .1 .1 .0 ∙ sizes .0 .rows .totals;
+          };
     } in
     job-ended (lent .input .now) s (start .pre .0 .1) (taken start) first (withCells (program .last .1 .1 .0) (rest after)) last
-    (withRows (cycle .last .1 .1 .1 .0) (cycle .last .1 .1 .1 .1 .0) last)
-    (clear-left s (taken start) (lent .cells .now) (lent .counters .now) (lent .flags .now) (sizes .0) (clear .result) first (clear .ensures noMemory))
-    (program .ensures (rest after)) (drift .ensures (rest after)) sized (lent .matches .now) (sizes .1) (cycle .result) (cycle .last .1 .1 .1 .1 .1 .0)
+    (withRows (left .0) (left .1 .0) (left .1 .1 .0) last)
+    (clear-left s (taken start) (lent .cells .now) (lent .counters .now) (lent .flags .now) (lent .totals .now) (sizes .0) (clear .result) first
+    (clear .ensures noMemory))
+    (program .ensures (rest after)) (drift .ensures (rest after)) sized (lent .matches .now) (sizes .1) (cycle .result) (left .1 .1 .1 .0)
     (cycle .ensures noMemory) refl
 
 pub run-calls-spec : {M : Type 1} → statement M
@@ -112,4 +131,5 @@ run-calls-spec =
     same-length-2
     same-length-3
     same-length-4
+    same-length-5
     returns)

@@ -1,0 +1,47 @@
+-- Flags that lie block after block: how many blocks there are, and the part of the flags that a block is. Assumes nothing.
+use mathlib.Core.Path.{_≡_, sym, _∙_, ap}
+use mathlib.Core.Logic.{_⊎_, ⊎-elim}
+use mathlib.Core.List.{List}
+use Prim.Native.Nat.{ℕ, _+_, _-_, _*_, _≤_, _<_}
+use native.Mathlib.Nat.{add-sub-cancel-left, le-of-eq}
+use native.Mathlib.Omega.{arith}
+use lib.ListN.{length, take, drop, length-take, length-drop}
+use lib.Seq.{take-all}
+use borrow.Rule.Slice.PartMut.{midOf}
+use Rattle.array_memory.specs.Blocks.{blocksOf, blockAt}
+
+-- block i starts before the end of the rows
+pub block-starts : (i m : ℕ) → i < blocksOf m → i * 64 < m
+unfolding blocksOf
+block-starts i m h = omega arith
+
+-- .. and the last ends there
+pub blocks-reach : (m : ℕ) → m ≤ blocksOf m * 64
+unfolding blocksOf
+blocks-reach m = omega arith
+
+-- the largest array has 64 blocks
+pub blocks-few : (m : ℕ) → m ≤ 4096 → blocksOf m ≤ 64
+unfolding blocksOf
+blocks-few m h = omega arith
+
+pub block-low : (flags : List ℕ) (i : ℕ) → length (blockAt flags i) ≤ 64
+unfolding blockAt
+block-low flags i = omega (arith, length-take 64 (drop (i * 64) flags))
+
+-- block i, lent as `flags[start..end]`
+pub block-part :
+    (flags : List ℕ) (i start end : ℕ) → start ≡ i * 64 → ((end ≡ start + 64) ⊎ ((end ≡ length flags) × (length flags ≤ start + 64)))
+    → midOf start (end - start) flags ≡ blockAt flags i
+unfolding blockAt
+block-part flags i start end begins ends =
+    ⊎-elim
+    (λ (e : end ≡ start + 64).
+    ap (λ k. take (k - start) (drop start flags)) e
+    ∙ ap (λ k. take k (drop start flags)) (add-sub-cancel-left start 64)
+    ∙ ap (λ k. take 64 (drop k flags)) begins)
+    (λ (e : (end ≡ length flags) × (length flags ≤ start + 64)).
+    take-all (end - start) (drop start flags) (omega (arith, e .0, length-drop start flags))
+    ∙ sym (take-all 64 (drop start flags) (omega (arith, e .1, length-drop start flags)))
+    ∙ ap (λ k. take 64 (drop k flags)) begins)
+    ends

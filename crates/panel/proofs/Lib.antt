@@ -1,0 +1,7 @@
+-- Searches through bytes, and the proofs of the claims on totals and panel.
+pub mod Searches
+pub mod Readings
+pub mod FirstFlags
+pub mod Totals
+pub mod FullReading
+pub mod Examples

@@ -1,0 +1,85 @@
+-- The totals are the blocks' counts of flagged rows: so in the fresh array, and every call keeps it. Assumes nothing.
+use mathlib.Core.Path.{_≡_, refl, sym, _∙_, ap}
+use mathlib.Core.Bool.{Bool, true, false}
+use mathlib.Core.List.{List}
+use Prim.Native.Nat.{ℕ, zero, suc, _+_, _*_}
+use native.Mathlib.Omega.{arith}
+use lib.ListN.{length, getD, drop, replicate, length-replicate}
+use lib.Seq.{getD-take, getD-drop}
+use Rattle.parity.specs.Lists.{tabulate}
+use Rattle.parity.specs.declared.Shape.{Shape}
+use Rattle.parity.proofs.ListLaws.{length-tabulate, tabulate-same, tabulate-constant}
+use Rattle.shape.proofs.Calling.{call-keeps}
+use Rattle.array_memory.specs.Blocks.{blocksOf, blockAt, countFlagged, blockTotals}
+use Rattle.array_memory.specs.Memory.{Memory, withCells, noMemory}
+use Rattle.array_memory.proofs.BlockPlaces.{block-low}
+use Rattle.array_memory.proofs.FlagCounts.{zero-count}
+use Rattle.array.specs.Calls.{programmed, drifted, driftCall}
+use Rattle.array_lookup.specs.Lookups.{lookupCall}
+use Rattle.cycle.specs.Record.{entryAt}
+use Rattle.cycle.specs.Calls.{State, zeroRows, cleared, fresh, clearCall, programCall, started, startCall, flaggedRows, steppedMemory, stepped, stepCall}
+use Rattle.cycle.specs.Run.{Call, clear, start, program, drift, lookup, step, after, run}
+use Rattle.cycle.proofs.Runs.{keepClaim}
+use Rattle.cycle.proofs.StepPasses.{flags-kept, totals-kept, totals-counted}
+use Rattle.panel.specs.Claims.{TotalsClaim}
+
+-- what every call keeps
+pub record Totalled (s : Shape) (mem : Memory) : Type 0 where
+  pub sized : length (mem .flags) ≡ s .rows
+  pub counted : mem .totals ≡ blockTotals (mem .flags)
+
+-- cells that are written anew leave it
+cells-apart : (s : Shape) (mem : Memory) → Totalled s mem → (cells : List ℕ) → Totalled s (withCells cells mem)
+cells-apart s mem t cells = record { sized = t .sized; counted = t .counted }
+
+-- without a flag every total is 0
+zero-byte : (m j : ℕ) → let zeros : List ℕ = replicate m 0 in getD zeros j 0 ≡ 0
+zero-byte zero j = refl
+zero-byte (suc m) zero = refl
+zero-byte (suc m) (suc j) = zero-byte m j
+
+zero-block : (m i : ℕ) → countFlagged (blockAt (replicate m 0) i) ≡ 0
+unfolding blockAt
+zero-block m i =
+    zero-count (blockAt (replicate m 0) i)
+    (λ j h. getD-take 64 (drop (i * 64) (replicate m 0)) j 0 (omega (arith, block-low (replicate m 0) i))
+    ∙ getD-drop (i * 64) (replicate m 0) j 0
+    ∙ zero-byte m (i * 64 + j))
+
+zero-totals : (m : ℕ) → replicate (blocksOf m) 0 ≡ blockTotals (replicate m 0)
+unfolding blockTotals
+zero-totals m =
+    sym
+    (ap (λ n. tabulate (blocksOf n) (λ i. countFlagged (blockAt (replicate m 0) i))) (length-replicate m 0)
+    ∙ tabulate-same (blocksOf m) _ (λ i. 0) (λ i h. zero-block m i)
+    ∙ tabulate-constant (blocksOf m) 0)
+
+module _ (s : Shape) where
+  zeroed : (mem : Memory) → Totalled s (zeroRows s mem)
+  unfolding zeroRows
+  zeroed mem = record { sized = length-replicate (s .rows) 0; counted = zero-totals (s .rows) }
+
+  counted-anew : (st : State) → Totalled s (st .memory) → Totalled s (steppedMemory s st)
+  unfolding steppedMemory flaggedRows
+  counted-anew st t = record { sized = length-tabulate (s .rows) _; counted = go (entryAt s (st .cycle .count) .flags) refl }
+    where
+      go : (b : Bool) → entryAt s (st .cycle .count) .flags ≡ b → steppedMemory s st .totals ≡ blockTotals (steppedMemory s st .flags)
+      go true e = sym (totals-counted s st e refl refl)
+      go false e = sym (totals-kept s st e) ∙ t .counted ∙ ap blockTotals (flags-kept s st e (t .sized))
+
+  keeps : (st : State) (c : Call) → Totalled s (st .memory) → Totalled s (after s st c .memory)
+  unfolding clearCall cleared programCall programmed startCall started driftCall drifted lookupCall stepCall stepped
+  keeps st clear t = call-keeps _ _ st _ (λ st. Totalled s (st .memory)) t (cells-apart s _ (zeroed (st .memory)) _)
+  keeps st start t = call-keeps _ _ st _ (λ st. Totalled s (st .memory)) t (zeroed (st .memory))
+  keeps st (program row given) t = call-keeps _ _ st _ (λ st. Totalled s (st .memory)) t (cells-apart s (st .memory) t _)
+  keeps st (drift row column level) t = call-keeps _ _ (st .memory) _ (Totalled s) t (cells-apart s (st .memory) t _)
+  keeps st (lookup inputs matches) t = call-keeps _ _ (st .memory) _ (Totalled s) t t
+  keeps st (step matches) t = call-keeps _ _ st _ (λ st. Totalled s (st .memory)) t (counted-anew st t)
+
+  -- after every list
+  pub totalled : (calls : List Call) → Totalled s (run s calls .memory)
+  unfolding fresh cleared
+  totalled = keepClaim s (λ st. Totalled s (st .memory)) (cells-apart s _ (zeroed noMemory) _) keeps
+
+pub totalsClaim : TotalsClaim
+totalsClaim s calls = totalled s calls .counted

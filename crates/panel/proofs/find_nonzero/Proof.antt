@@ -1,0 +1,58 @@
+-- `panel::find_nonzero` meets its contract: what is left of the search gives the whole search's answer, and as many bytes were read as were
+-- passed over. Assumes nothing.
+use mathlib.Core.Path.{ap}
+use mathlib.Core.Bool.{not}
+use Prim.Native.Nat.{_-_}
+use native.Mathlib.Omega.{arith}
+use lib.ListN.{length, getD}
+use borrow.Author.Tests.{eq-eqb, ne-eqb}
+use Rattle.panel.proofs.Searches.{Left, left-all, left-next, left-found, left-none}
+use Rattle.panel.proofs.find_nonzero.Statement.{statement}
+use Rattle.panel.proofs.find_nonzero.Tie as tie
+
+abbrev Inv-loop : tie.InvT-loop
+Inv-loop bytes read₀ read = Left bytes read
+
+abbrev μ-loop : tie.MeasureT-loop
+μ-loop bytes read₀ read = length bytes - read
+
+loop-holds : tie.Need-loop-holds Inv-loop μ-loop
+loop-holds c = left-all _
+
+shared-slice-read-byte : tie.Need-shared-slice-read-byte Inv-loop μ-loop
+shared-slice-read-byte c = omega arith
+
+add-read : tie.Need-add-read Inv-loop μ-loop
+add-read c = omega arith
+
+returns : tie.Need-returns Inv-loop μ-loop
+returns c =
+    let turn = c .before .before .before in
+    let byte = getD (turn .before .args .bytes .now) (turn .loop .read) 0 in
+    left-found _ (turn .loop .inv) (omega arith) (ap not (ne-eqb byte 0 (c .if1 .taken)))
+
+loop-less : tie.Need-loop-less Inv-loop μ-loop
+loop-less c = omega arith
+
+loop-again : tie.Need-loop-again Inv-loop μ-loop
+loop-again c =
+    let turn = c .before .before .before in
+    let byte = getD (turn .before .args .bytes .now) (turn .loop .read) 0 in
+    left-next _ (turn .loop .inv) (omega arith) (ap not (eq-eqb byte 0 (c .if1 .left)))
+
+returns-2 : tie.Need-returns-2 Inv-loop μ-loop
+returns-2 c = left-none _ (c .before .loop .inv) (omega arith)
+
+pub find-nonzero-spec : {M : Type 1} → statement M
+find-nonzero-spec =
+    tie.close
+    (tie.spec
+    Inv-loop
+    μ-loop
+    loop-holds
+    shared-slice-read-byte
+    add-read
+    returns
+    loop-less
+    loop-again
+    returns-2)

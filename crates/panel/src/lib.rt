@@ -1,0 +1,108 @@
+// What the panel shows of the flagged rows: their number and the first of them, from the blocks' totals and one block of
+// flags at most.
+use array_memory::blocks::BLOCK;
+use array_memory::blocks::block_end;
+use array_memory::memory::check_flags;
+use parity::Shape;
+use shape::answer::First;
+use shape::byte::wide;
+use shape::sizes::Checked;
+ghost use mathlib.Core.Path.{_≡_};
+ghost use Prim.Native.Nat.{_≤_};
+ghost use lib.ListN.{length};
+ghost use Rattle.parity.specs.Lists.{sumOver};
+ghost use Rattle.shape.specs.Answers.{accepted};
+ghost use Rattle.shape.specs.Lent.{was};
+ghost use Rattle.array_memory.specs.Blocks.{blocksOf};
+ghost use Rattle.array_memory.specs.Memory.{Memory, withFlagged};
+ghost use Rattle.panel.specs.Panel.{panelReading, panelCall};
+ghost use Rattle.panel.specs.Answers.{panelSays, searched};
+
+// The panel's answer. A refused call's row says so, and its numbers are 0.
+pub struct Summary {
+    pub total: usize,
+    pub first: First,
+    // how many flags were read
+    pub read: usize,
+}
+
+// How a search through bytes ended: at one that isn't 0, or at their end; and how many of them were read.
+struct Search {
+    found: bool,
+    read: usize,
+}
+
+// Reads bytes up to the first that isn't 0, and counts each as it is read.
+fn find_nonzero(bytes: &[u8]) -> Search
+    ensures { λ r. ⌜ r ≡ searched (was bytes) ⌝ }
+{
+    let mut read: usize = 0;
+    while read < bytes.len() {
+        let byte = bytes[read];
+        read += 1;
+        if byte != 0 {
+            return Search { found: true, read };
+        }
+    }
+    Search { found: false, read }
+}
+
+// The sum of the totals, any bytes.
+fn sum_totals(totals: &[u8]) -> usize
+    requires { ⌜ length (now totals) ≤ 64 ⌝ }
+    ensures { λ r. ⌜ r ≡ sumOver (was totals) (λ t. t) ⌝ }
+{
+    let mut sum: usize = 0;
+    let mut i: usize = 0;
+    while i < totals.len() {
+        sum += wide(totals[i]);
+        i += 1;
+    }
+    sum
+}
+
+// What flags and totals of their lengths tell: the first block whose total isn't 0 is searched, and lent to the search alone.
+fn read_blocks(flags: &[u8], totals: &[u8]) -> Summary
+    requires { ⌜ (length (now flags) ≤ 4096) × (length (now totals) ≡ blocksOf (length (now flags))) ⌝ }
+    ensures { λ r. ⌜ panelSays r ≡ accepted (panelReading (was flags) (was totals)) ⌝ }
+{
+    let total = sum_totals(totals);
+    let blocks = find_nonzero(totals);
+    if !blocks.found {
+        return Summary {
+            total,
+            first: First::Nothing,
+            read: 0,
+        };
+    }
+    let start = (blocks.read - 1) * BLOCK;
+    let end = block_end(start, flags.len());
+    let rows = find_nonzero(&flags[start..end]);
+    let read = rows.read;
+    if !rows.found {
+        return Summary {
+            total,
+            first: First::Nothing,
+            read,
+        };
+    }
+    Summary {
+        total,
+        first: First::Row(start + read - 1),
+        read,
+    }
+}
+
+// The panel call: the grand total, the first flagged row or none, and how many flags were read.
+pub fn panel(shape: Shape, flags: &[u8], totals: &[u8]) -> Summary
+    ensures { λ r. ⌜ ((mem : Memory) → panelCall shape (withFlagged (was flags) (was totals) mem) ≡ panelSays r) ⌝ }
+{
+    match check_flags(shape, flags.len(), totals.len()) {
+        Checked::Refused(number) => Summary {
+            total: 0,
+            first: First::Refused(number),
+            read: 0,
+        },
+        Checked::Taken(_) => read_blocks(flags, totals),
+    }
+}
