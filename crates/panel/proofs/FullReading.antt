@@ -24,7 +24,7 @@ use Rattle.cycle.specs.Run.{Call, run}
 use Rattle.panel.specs.Panel.{Reading, reading, noReading, firstNonzero, anyNonzero, firstIn, readCount, panelReading, panelQuestions, panelCall, firstFlagged}
 use Rattle.panel.specs.Claims.{FullReadingClaim, OneBlockClaim}
 use Rattle.panel.proofs.FirstFlags.{first-before, first-there, first-is}
-use Rattle.panel.proofs.Totals.{Totalled, totalled}
+use Rattle.panel.proofs.TotalsKept.{Totalled, totalled}
 
 -- ---- sums
 

@@ -2,6 +2,6 @@
 pub mod Searches
 pub mod Readings
 pub mod FirstFlags
-pub mod Totals
+pub mod TotalsKept
 pub mod FullReading
 pub mod Examples

@@ -10,13 +10,12 @@ use shape::sizes::Checked;
 ghost use mathlib.Core.Path.{_≡_};
 ghost use Prim.Native.Nat.{_≤_};
 ghost use lib.ListN.{length};
-ghost use Rattle.parity.specs.Lists.{sumOver};
 ghost use Rattle.shape.specs.Answers.{accepted};
 ghost use Rattle.shape.specs.Lent.{was};
 ghost use Rattle.array_memory.specs.Blocks.{blocksOf};
 ghost use Rattle.array_memory.specs.Memory.{Memory, withFlagged};
 ghost use Rattle.panel.specs.Panel.{panelReading, panelCall};
-ghost use Rattle.panel.specs.Answers.{panelSays, searched};
+ghost use Rattle.panel.specs.Answers.{panelSays, summed, searched};
 
 // The panel's answer. A refused call's row says so, and its numbers are 0.
 pub struct Summary {
@@ -26,69 +25,81 @@ pub struct Summary {
     pub read: usize,
 }
 
-// How a search through bytes ended: at one that isn't 0, or at their end; and how many of them were read.
+// What all the totals tell: their sum, and the first block whose total isn't 0, or the number of blocks.
+struct Totals {
+    sum: usize,
+    block: usize,
+}
+
+// How a search through a block's flags ended: at one that isn't 0, or at the block's end; and how many of them were read.
 struct Search {
     found: bool,
     read: usize,
 }
 
-// Reads bytes up to the first that isn't 0, and counts each as it is read.
-fn find_nonzero(bytes: &[u8]) -> Search
-    ensures { λ r. ⌜ r ≡ searched (was bytes) ⌝ }
+// Reads each total once.
+fn sum_totals(totals: &[u8]) -> Totals
+    requires { ⌜ length (now totals) ≤ 64 ⌝ }
+    ensures { λ r. ⌜ r ≡ summed (was totals) ⌝ }
+{
+    let mut sum: usize = 0;
+    let mut block: usize = 0;
+    let mut i: usize = 0;
+    while i < totals.len() {
+        sum += wide(totals[i]);
+        // as long as the sum is 0, so is every total
+        if sum == 0 {
+            block += 1;
+        }
+        i += 1;
+    }
+    Totals { sum, block }
+}
+
+// Reads flags up to the first that isn't 0, and counts each as it is read.
+fn search_block(flags: &[u8]) -> Search
+    ensures { λ r. ⌜ r ≡ searched (was flags) ⌝ }
 {
     let mut read: usize = 0;
-    while read < bytes.len() {
-        let byte = bytes[read];
+    while read < flags.len() {
+        let flag = flags[read];
         read += 1;
-        if byte != 0 {
+        if flag != 0 {
             return Search { found: true, read };
         }
     }
     Search { found: false, read }
 }
 
-// The sum of the totals, any bytes.
-fn sum_totals(totals: &[u8]) -> usize
-    requires { ⌜ length (now totals) ≤ 64 ⌝ }
-    ensures { λ r. ⌜ r ≡ sumOver (was totals) (λ t. t) ⌝ }
-{
-    let mut sum: usize = 0;
-    let mut i: usize = 0;
-    while i < totals.len() {
-        sum += wide(totals[i]);
-        i += 1;
-    }
-    sum
-}
-
-// What flags and totals of their lengths tell: the first block whose total isn't 0 is searched, and lent to the search alone.
+// What flags and totals of their lengths tell. Only the first block whose total isn't 0 is lent to the search.
 fn read_blocks(flags: &[u8], totals: &[u8]) -> Summary
     requires { ⌜ (length (now flags) ≤ 4096) × (length (now totals) ≡ blocksOf (length (now flags))) ⌝ }
     ensures { λ r. ⌜ panelSays r ≡ accepted (panelReading (was flags) (was totals)) ⌝ }
 {
-    let total = sum_totals(totals);
-    let blocks = find_nonzero(totals);
-    if !blocks.found {
+    let all = sum_totals(totals);
+    let total = all.sum;
+    if totals.len() <= all.block {
         return Summary {
             total,
             first: First::Nothing,
             read: 0,
         };
     }
-    let start = (blocks.read - 1) * BLOCK;
+    let start = all.block * BLOCK;
     let end = block_end(start, flags.len());
-    let rows = find_nonzero(&flags[start..end]);
-    let read = rows.read;
-    if !rows.found {
+    let search = search_block(&flags[start..end]);
+    let read = search.read;
+    if !search.found {
         return Summary {
             total,
             first: First::Nothing,
             read,
         };
     }
+    let row = start + read - 1;
     Summary {
         total,
-        first: First::Row(start + read - 1),
+        first: First::Row(row),
         read,
     }
 }
