@@ -9,14 +9,13 @@ use Rattle.parity.specs.Matrix.{lookups}
 use Rattle.parity.specs.Questions.{firstNo, ifTaken, Taken}
 use Rattle.parity.specs.declared.Shape.{Shape}
 use Rattle.shape.specs.Answers.{accepted, refused, giving, calling}
-use Rattle.shape.proofs.Refusals.{taken-rest}
 use Rattle.shape.proofs.Calling.{call-done}
 use Rattle.array_memory.specs.Memory.{Memory, withCells, withAll, noMemory, Sized}
 use Rattle.array_memory.specs.Questions.{cellsQuestions, programArguments}
 use Rattle.array.specs.Calls.{programmed}
 use Rattle.cycle.specs.Record.{idle}
 use Rattle.cycle.specs.Calls.{State, stateOf, zeroRows, cleared, fresh, clearQuestions, clearCall, programCall}
-use Rattle.cycle.specs.Calls.{lentQuestions, stepQuestions, stepMatches, stepped, stepCall}
+use Rattle.cycle.specs.Calls.{stepQuestions, stepMatches, stepped, stepCall}
 use Rattle.cycle.specs.Run.{Call, clear, start, step, runFrom, run}
 use Rattle.cycle.specs.Methods.{changing, doneWith}
 use Rattle.cycle.specs.declared.Changed.{Changed}

@@ -1,27 +1,26 @@
 -- The panel's total and first row are those of a full reading of the flags, where each total is its block's count of flagged rows; and
 -- for any bytes it reads one block of flags at most. Assumes nothing.
 use mathlib.Core.Path.{_≡_, refl, sym, _∙_, ap, ap₂}
-use mathlib.Core.Bool.{Bool, true, false, cond, not}
+use mathlib.Core.Bool.{Bool, true, false, cond}
 use mathlib.Core.List.{List, [], _∷_, _++_}
 use Prim.Native.Nat.{ℕ, zero, suc, _+_, _-_, _*_, _≤_, _<_, suc-le-suc}
 use native.Mathlib.Nat.{zero-lt-suc}
 use native.Mathlib.Omega.{arith}
 use lib.ListN.{length, getD, take, drop, length-drop, length-take}
 use lib.Dec.{ltb}
-use lib.Seq.{take-all, getD-take, getD-drop, length-take-le}
+use lib.Seq.{take-all, getD-take, getD-drop}
 use borrow.Author.Tests.{eq-eqb, ltb-true, ltb-false, lt-ltb, le-ltb}
 use Rattle.parity.specs.Lists.{tabulate, sumOver, sumTo}
-use Rattle.parity.specs.Questions.{firstNo, ifTaken, Taken}
-use Rattle.parity.specs.declared.Shape.{Shape}
+use Rattle.parity.specs.Questions.{firstNo, ifTaken}
 use Rattle.parity.proofs.ListLaws.{length-tabulate, getD-tabulate, sum-append}
-use Rattle.shape.specs.Answers.{Found, row, none, rowOrNone, accepted, refused}
+use Rattle.shape.specs.Answers.{row, none, rowOrNone, accepted, refused}
 use Rattle.shape.proofs.Refusals.{taken-rest}
-use Rattle.array_memory.specs.Blocks.{blocksOf, blockAt, isFlagged, countFlagged, blockTotals}
-use Rattle.array_memory.specs.Memory.{Memory, flagsQuestions}
-use Rattle.array_memory.proofs.BlockPlaces.{block-starts, blocks-reach, block-low}
+use Rattle.array_memory.specs.Blocks.{blocksOf, blockAt, countFlagged, blockTotals}
+use Rattle.array_memory.specs.Memory.{flagsQuestions}
+use Rattle.array_memory.proofs.BlockPlaces.{blocks-reach, block-low}
 use Rattle.array_memory.proofs.FlagCounts.{count-zero, zero-count, count-blocks}
-use Rattle.cycle.specs.Run.{Call, run}
-use Rattle.panel.specs.Panel.{Reading, reading, noReading, firstNonzero, anyNonzero, firstIn, readCount, panelReading, panelQuestions, panelCall, firstFlagged}
+use Rattle.cycle.specs.Run.{run}
+use Rattle.panel.specs.Panel.{reading, noReading, firstNonzero, anyNonzero, firstIn, readCount, panelReading, panelQuestions, panelCall, firstFlagged}
 use Rattle.panel.specs.Claims.{FullReadingClaim, OneBlockClaim}
 use Rattle.panel.proofs.FirstFlags.{first-before, first-there, first-is}
 use Rattle.panel.proofs.TotalsKept.{Totalled, totalled}

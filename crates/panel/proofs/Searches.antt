@@ -1,5 +1,5 @@
 -- A search through bytes for one that isn't 0: what is left of it gives the whole search's answer, and what its answer says. Assumes nothing.
-use mathlib.Core.Path.{_≡_, refl, sym, _∙_, ap, ap₂}
+use mathlib.Core.Path.{_≡_, refl, sym, _∙_, ap}
 use mathlib.Core.Bool.{Bool, true, false, cond}
 use mathlib.Core.List.{List}
 use Prim.Native.Nat.{ℕ, suc, _+_, _-_, _≤_, _<_}
@@ -12,7 +12,7 @@ use Rattle.parity.specs.Lists.{firstFrom}
 use Rattle.shape.proofs.Search.{search-found, search-missed, search-ended}
 use Rattle.shape.proofs.Search.{searched as left-of}
 use Rattle.array_memory.specs.Blocks.{isFlagged}
-use Rattle.panel.specs.Panel.{firstNonzero, anyNonzero, readCount}
+use Rattle.panel.specs.Panel.{firstNonzero, anyNonzero}
 use Rattle.panel.specs.Answers.{searched}
 use Rattle.panel.specs.declared.Search.{Search}
 

@@ -1,7 +1,7 @@
 -- The claims are not empty: three lists at a shape of three blocks, the last of them short (ρ 2, b 1, τ 1, k 1, m 130: n is 2 and a cycle has 2
 -- lookups), with the totals that they leave and what the panel is told.
 use mathlib.Core.Path.{_≡_}
-use mathlib.Core.List.{List, [], _∷_, _++_, map}
+use mathlib.Core.List.{List, [], _∷_, map}
 use Prim.Native.Nat.{ℕ}
 use lib.ListN.{replicate}
 use Rattle.parity.specs.declared.Shape.{Shape}

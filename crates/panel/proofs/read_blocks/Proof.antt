@@ -1,5 +1,5 @@
 -- `panel::read_blocks` meets its contract: the first block whose total isn't 0 is the part of the flags that is searched. Assumes nothing.
-use mathlib.Core.Path.{_≡_, refl, sym, _∙_, ap}
+use mathlib.Core.Path.{_≡_, refl, _∙_, ap}
 use mathlib.Core.Bool.{Bool, true, false, cond}
 use mathlib.Core.List.{List}
 use Prim.Native.Nat.{ℕ, suc, _+_, _-_, _*_, _<_}
@@ -7,7 +7,6 @@ use native.Mathlib.Omega.{arith}
 use lib.ListN.{length}
 use borrow.Author.Needs.{needs}
 use borrow.Author.Tests.{not-true, not-false, lt-ltb, le-ltb}
-use borrow.Rule.Slice.PartMut.{midOf}
 use Rattle.parity.specs.Lists.{sumOver}
 use Rattle.shape.specs.Answers.{Found, row, none, accepted}
 use Rattle.array_memory.specs.Blocks.{blockAt}

@@ -3,7 +3,7 @@
 use mathlib.Core.Path.{refl, sym, ap, _∙_}
 use mathlib.Core.List.{List, []}
 use Prim.Native.Nat.{ℕ}
-use lib.ListN.{length, replicate}
+use lib.ListN.{replicate}
 use borrow.Author.Needs.{needs}
 use Rattle.parity.specs.Questions.{Question}
 use Rattle.shape.proofs.Refusals.{told, fails, Passes, passes}

@@ -63,8 +63,8 @@ module _ (mem : Memory) where
       let start = entry c in
       let input = c .before .before .scale in
       step-matches (start .args .shape) (stateOf (withCells (start .args .cells .now) mem) (start .args .cycle)) (start .pre .0 .0) (start .pre .0 .2 .0)
-      (start .pre .1 .0 .cells) (length (start .args .matches .now)) (start .args .columns) (input .result) (start .pre .1 .1) (start .pre .0 .1) (input .ensures)
-      (c .match-column .ensures)
+      (start .pre .1 .0 .cells) (length (start .args .matches .now)) (start .args .columns) (input .result) (start .pre .1 .1) (start .pre .0 .1)
+      (input .ensures) (c .match-column .ensures)
 
 module _ (mem : Memory) (c : tie.After-count-rows) where
   counters-made : c .count-rows .last .0 ≡ tally (entry (looked c) .args .shape) (stateAt (entry (looked c)) mem)

@@ -24,8 +24,10 @@ module _ (c : tie.After-panel) where
 
   told :
       (known : First) → c .panel .result .first ≡ known → (mem : Memory)
-      → let said = readingSays (start .args .shape .rows) (panelSays (record { total = c .panel .result .total; first = known; read = c .panel .result .read })) in
-      readingSays (start .args .shape .rows) (panelCall (start .args .shape) (withFlagged (start .args .flags .now) (start .args .totals .now) mem))
+      → let args = start .args in
+      let answer = c .panel .result in
+      let said = readingSays (args .shape .rows) (panelSays (record { total = answer .total; first = known; read = answer .read })) in
+      readingSays (args .shape .rows) (panelCall (args .shape) (withFlagged (args .flags .now) (args .totals .now) mem))
       ≡ telling (said .number) (said .value)
   told known same mem =
       let answer = c .panel .result in
