@@ -43,7 +43,8 @@ enum {
 
 // ---- calls that have the record
 
-// Totals are (m + 63) / 64 bytes: for each block of 64 rows, the last of which may be short, the number of its flagged rows.
+// Totals are (m + 63) / 64 bytes: for each block of 64 rows, the last of which may be short, the number of its
+// flagged rows. Clear and start write 0, and each step that looks for rows to flag counts them anew.
 
 uint8_t jorivelune_clear(size_t record[JORIVELUNE_WORDS], struct jorivelune_shape shape,
                          uint8_t *cells, size_t cells_length,
@@ -77,8 +78,9 @@ uint8_t jorivelune_run(size_t record[JORIVELUNE_WORDS], struct jorivelune_shape 
 
 // ---- the panel
 
-// The sum of the totals goes to total, the first flagged row to first, m where there is none, and the number of flags that were
-// read for it, one block of them at most, to read; all three are 0 where the call is refused.
+// The sum of the totals goes to total; the first flagged row to first, m where there is none; and the number of flags
+// that were read for it to read. Only the first block whose total is not 0 is read. All three are 0 where the call is
+// refused.
 uint8_t jorivelune_panel(struct jorivelune_shape shape,
                          const uint8_t *flags, size_t flags_length,
                          const uint8_t *totals, size_t totals_length,

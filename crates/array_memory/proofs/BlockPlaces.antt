@@ -5,8 +5,8 @@ use mathlib.Core.List.{List}
 use Prim.Native.Nat.{ℕ, _+_, _-_, _*_, _≤_, _<_}
 use native.Mathlib.Nat.{add-sub-cancel-left}
 use native.Mathlib.Omega.{arith}
-use lib.ListN.{length, take, drop, length-take, length-drop}
-use lib.Seq.{take-all}
+use lib.ListN.{length, getD, take, drop, length-take, length-drop}
+use lib.Seq.{take-all, getD-take, getD-drop}
 use borrow.Rule.Slice.PartMut.{midOf}
 use Rattle.array_memory.specs.Blocks.{blocksOf, blockAt}
 
@@ -28,6 +28,11 @@ blocks-few m h = omega arith
 pub block-low : (flags : List ℕ) (i : ℕ) → length (blockAt flags i) ≤ 64
 unfolding blockAt
 block-low flags i = omega (arith, length-take 64 (drop (i * 64) flags))
+
+-- a flag of block i
+pub block-flag : (flags : List ℕ) (i j : ℕ) → j < 64 → getD (blockAt flags i) j 0 ≡ getD flags (i * 64 + j) 0
+unfolding blockAt
+block-flag flags i j h = getD-take 64 (drop (i * 64) flags) j 0 h ∙ getD-drop (i * 64) flags j 0
 
 -- block i, lent as `flags[start..end]`
 pub block-part :

@@ -8,7 +8,7 @@ use native.Mathlib.Nat.{zero-lt-suc}
 use native.Mathlib.Omega.{arith}
 use lib.ListN.{length, getD, take, drop, length-drop, length-take}
 use lib.Dec.{ltb}
-use lib.Seq.{take-all, getD-take, getD-drop}
+use lib.Seq.{take-all, getD-take}
 use borrow.Author.Tests.{eq-eqb, ltb-true, ltb-false, lt-ltb, le-ltb}
 use Rattle.parity.specs.Lists.{tabulate, sumOver, sumTo}
 use Rattle.parity.specs.Questions.{firstNo, ifTaken}
@@ -17,7 +17,7 @@ use Rattle.shape.specs.Answers.{row, none, rowOrNone, accepted, refused}
 use Rattle.shape.proofs.Refusals.{taken-rest}
 use Rattle.array_memory.specs.Blocks.{blocksOf, blockAt, countFlagged, blockTotals}
 use Rattle.array_memory.specs.Memory.{flagsQuestions}
-use Rattle.array_memory.proofs.BlockPlaces.{blocks-reach, block-low}
+use Rattle.array_memory.proofs.BlockPlaces.{blocks-reach, block-low, block-flag}
 use Rattle.array_memory.proofs.FlagCounts.{count-zero, zero-count, count-blocks}
 use Rattle.cycle.specs.Run.{run}
 use Rattle.panel.specs.Panel.{reading, noReading, firstNonzero, anyNonzero, firstIn, readCount, panelReading, panelQuestions, panelCall, firstFlagged}
@@ -60,11 +60,6 @@ module _ (flags : List ℕ) where
   total-at : (i : ℕ) → i < length (blockTotals flags) → getD (blockTotals flags) i 0 ≡ total i
   unfolding blockTotals
   total-at i h = getD-tabulate (blocksOf (length flags)) total i 0 (omega (arith, length-tabulate (blocksOf (length flags)) total))
-
-  -- a flag of block i
-  block-flag : (i j : ℕ) → j < 64 → getD (blockAt flags i) j 0 ≡ getD flags (i * 64 + j) 0
-  unfolding blockAt
-  block-flag i j h = getD-take 64 (drop (i * 64) flags) j 0 h ∙ getD-drop (i * 64) flags j 0
 
   -- ---- where no total is up, no row is flagged
   none-flagged : anyNonzero (blockTotals flags) ≡ false → none ≡ firstFlagged flags
@@ -112,7 +107,7 @@ module _ (flags : List ℕ) where
             let place : i * 64 + (j - i * 64) ≡ j = omega arith in
             let low : firstNonzero block < 64 = omega (arith, some, block-low flags i) in
             ap (λ k. getD flags k 0) (sym place)
-            ∙ sym (block-flag i (j - i * 64) (omega arith))
+            ∙ sym (block-flag flags i (j - i * 64) (omega arith))
             ∙ first-before block (j - i * 64) (omega arith)
 
     inside : i * 64 + firstNonzero block < length flags
@@ -123,7 +118,7 @@ module _ (flags : List ℕ) where
     first-flag =
         first-is flags (i * 64 + firstNonzero block) inside
         quiet
-        (λ e. first-there block some (block-flag i (firstNonzero block) (omega (arith, some, block-low flags i)) ∙ e))
+        (λ e. first-there block some (block-flag flags i (firstNonzero block) (omega (arith, some, block-low flags i)) ∙ e))
 
     row-told : firstIn flags i ≡ firstFlagged flags
     unfolding firstFlagged

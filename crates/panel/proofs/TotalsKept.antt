@@ -4,15 +4,14 @@ use mathlib.Core.Bool.{Bool, true, false}
 use mathlib.Core.List.{List}
 use Prim.Native.Nat.{ℕ, zero, suc, _+_, _*_}
 use native.Mathlib.Omega.{arith}
-use lib.ListN.{length, getD, drop, replicate, length-replicate}
-use lib.Seq.{getD-take, getD-drop}
+use lib.ListN.{length, getD, replicate, length-replicate}
 use Rattle.parity.specs.Lists.{tabulate}
 use Rattle.parity.specs.declared.Shape.{Shape}
 use Rattle.parity.proofs.ListLaws.{length-tabulate, tabulate-same, tabulate-constant}
 use Rattle.shape.proofs.Calling.{call-keeps}
 use Rattle.array_memory.specs.Blocks.{blocksOf, blockAt, countFlagged, blockTotals}
 use Rattle.array_memory.specs.Memory.{Memory, withCells, noMemory}
-use Rattle.array_memory.proofs.BlockPlaces.{block-low}
+use Rattle.array_memory.proofs.BlockPlaces.{block-low, block-flag}
 use Rattle.array_memory.proofs.FlagCounts.{zero-count}
 use Rattle.array.specs.Calls.{programmed, drifted, driftCall}
 use Rattle.array_lookup.specs.Lookups.{lookupCall}
@@ -39,12 +38,9 @@ zero-byte (suc m) zero = refl
 zero-byte (suc m) (suc j) = zero-byte m j
 
 zero-block : (m i : ℕ) → countFlagged (blockAt (replicate m 0) i) ≡ 0
-unfolding blockAt
 zero-block m i =
     zero-count (blockAt (replicate m 0) i)
-    (λ j h. getD-take 64 (drop (i * 64) (replicate m 0)) j 0 (omega (arith, block-low (replicate m 0) i))
-    ∙ getD-drop (i * 64) (replicate m 0) j 0
-    ∙ zero-byte m (i * 64 + j))
+    (λ j h. block-flag (replicate m 0) i j (omega (arith, block-low (replicate m 0) i)) ∙ zero-byte m (i * 64 + j))
 
 zero-totals : (m : ℕ) → replicate (blocksOf m) 0 ≡ blockTotals (replicate m 0)
 unfolding blockTotals
