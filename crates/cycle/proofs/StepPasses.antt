@@ -1,5 +1,5 @@
--- What the passes of a step over the rows come to: the unit vector looks at one cell of a row, and a lookup within its digit leaves the flags
--- as they were and the counters as they were counted. Assumes nothing.
+-- What the passes of a step over the rows come to: the unit vector looks at one cell of a row, and a lookup within its digit leaves flags and
+-- totals as they were and the counters as they were counted. Assumes nothing.
 use mathlib.Core.Path.{_≡_, refl, sym, subst, ap, _∙_}
 use mathlib.Core.Bool.{Bool, true, false, cond, not, _&&_}
 use mathlib.Core.List.{List}
