@@ -29,8 +29,8 @@ struct jorivelune_shape {
     size_t rows;
 };
 
-// The cycle record: six words. The phase is 0 idle, 1 open or 2 complete; any other is read as idle. A record
-// of zeros is that of a fresh array.
+// The cycle record: seven words. The phase is 0 idle, 1 open or 2 complete; any other is read as idle. The last is the
+// number of low digits that the cycle skips. A record of zeros is that of a fresh array.
 enum {
     JORIVELUNE_PHASE,
     JORIVELUNE_CHECK,
@@ -38,6 +38,7 @@ enum {
     JORIVELUNE_COLUMN,
     JORIVELUNE_FACTOR,
     JORIVELUNE_COUNT,
+    JORIVELUNE_SKIP,
     JORIVELUNE_WORDS
 };
 
@@ -56,7 +57,9 @@ uint8_t jorivelune_program(size_t record[JORIVELUNE_WORDS], struct jorivelune_sh
                            uint8_t *cells, size_t cells_length,
                            size_t row, const uint8_t *levels, size_t levels_length);
 
-uint8_t jorivelune_start(size_t record[JORIVELUNE_WORDS], struct jorivelune_shape shape,
+// Skip is the number of low digits that the cycle skips: 0 for the whole cycle, below b for a coarse one, which sees
+// only what differs above them. Any number may be given: question 15 refuses b and more.
+uint8_t jorivelune_start(size_t record[JORIVELUNE_WORDS], struct jorivelune_shape shape, size_t skip,
                          uint8_t *counters, size_t counters_length,
                          uint8_t *flags, size_t flags_length,
                          uint8_t *totals, size_t totals_length);
@@ -69,7 +72,7 @@ uint8_t jorivelune_step(size_t record[JORIVELUNE_WORDS], struct jorivelune_shape
                         uint8_t *matches, size_t matches_length);
 
 // A start and all the steps of a cycle.
-uint8_t jorivelune_run(size_t record[JORIVELUNE_WORDS], struct jorivelune_shape shape,
+uint8_t jorivelune_run(size_t record[JORIVELUNE_WORDS], struct jorivelune_shape shape, size_t skip,
                        const uint8_t *cells, size_t cells_length,
                        uint8_t *counters, size_t counters_length,
                        uint8_t *flags, size_t flags_length,

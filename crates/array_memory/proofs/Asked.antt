@@ -10,7 +10,7 @@ use borrow.Author.Tests.{eqb-true, ltb-true, eq-eqb, lt-ltb}
 use Rattle.parity.specs.Lists.{every}
 use Rattle.parity.specs.Shape.{levels, columns}
 use Rattle.parity.specs.Claims.{Below}
-use Rattle.parity.specs.Questions.{Question, firstNo, shapeQuestions, shapeRefusal, Taken, callQuestions, lengthQuestion}
+use Rattle.parity.specs.Questions.{Question, firstNo, shapeQuestions, shapeRefusal, Taken, callQuestions, skipQuestion, lengthQuestion}
 use Rattle.parity.specs.declared.Shape.{Shape}
 use Rattle.parity.proofs.ListLaws.{every-at, every-passes}
 use Rattle.parity.proofs.Taken.{first-yes}
@@ -112,6 +112,16 @@ module _ {s : Shape} {cells : ℕ} (p : CellsTaken s cells) where
   pub row-within : (z : Sizes) → z ≡ sizesOf s → (row : ℕ) → row < s .rows → row * z .columns + z .columns ≤ cells
   unfolding cellCount
   row-within z e row h = rw (ap (λ z. z .columns) e, p .counted) (row-fits row (s .rows) (columns s) h)
+
+-- ---- the number of digits to skip, between the shape and the rest
+pub skip-taken :
+    (s : Shape) (z : ℕ) (rest : List Question) → firstNo (shapeQuestions s ++ skipQuestion s z ∷ rest) ≡ 0
+    → (z < s .digits) × (firstNo (shapeQuestions s ++ rest) ≡ 0)
+unfolding shapeRefusal
+skip-taken s z rest none =
+    let parts = first-none (shapeQuestions s) (skipQuestion s z ∷ rest) refl none in
+    let one = first-yes _ _ 15 (lit< tt) (parts .1) in
+    (ltb-true z (s .digits) (one .0), taken-rest s (parts .0) rest ∙ one .1)
 
 -- ---- the memory: flags and totals, by their numbers
 pub record FlagsTaken (s : Shape) (flagCount totalCount : ℕ) : Type 0 where

@@ -1,19 +1,37 @@
-// The questions on the lent memory: each function gives the shape's sizes, or the number of the first no.
+// The questions on the lent memory. Each function is given the answer to what was asked of the shape, asks further where
+// that gave the sizes, and gives the sizes, or the number of the first no.
 use super::blocks::block_count;
 use parity::Shape;
 use shape::sizes::Checked;
 use shape::sizes::check_shape;
 ghost use mathlib.Core.Path.{_≡_};
-ghost use mathlib.Core.List.{[]};
-ghost use Rattle.parity.specs.Questions.{firstNo, callQuestions};
-ghost use Rattle.shape.specs.Shapes.{checkedSays, sizesIf};
+ghost use mathlib.Core.List.{[], _∷_};
+ghost use Rattle.parity.specs.Questions.{firstNo, callQuestions, skipQuestion};
+ghost use Rattle.shape.specs.Shapes.{checkedSays, sizesIf, thenSays, TellsOf};
 ghost use Rattle.array_memory.specs.Memory.{flagsLengths, rowsLengths, memoryLengths, lookupLengths};
 
-// 1 to 5, and 6 on flags and totals.
-pub fn check_flags(shape: Shape, flags: usize, totals: usize) -> Checked
-    ensures { λ r. ⌜ checkedSays r ≡ sizesIf (firstNo (callQuestions shape [] (flagsLengths shape flags totals) [])) shape ⌝ }
+// 1 to 5, and 15 on the number of low digits that a cycle skips.
+pub fn check_skip(shape: Shape, skip: usize) -> Checked
+    ensures { λ r. ⌜ checkedSays r ≡ sizesIf (firstNo (callQuestions shape (skipQuestion shape skip ∷ []) [] [])) shape ⌝ }
 {
     match check_shape(shape) {
+        Checked::Refused(number) => Checked::Refused(number),
+        Checked::Taken(sizes) => {
+            let digits = shape.digits;
+            if digits <= skip {
+                return Checked::Refused(15);
+            }
+            Checked::Taken(sizes)
+        }
+    }
+}
+
+// 6 on flags and totals.
+pub fn check_flags(asked: Checked, shape: Shape, flags: usize, totals: usize) -> Checked
+    requires { ⌜ TellsOf shape asked ⌝ }
+    ensures { λ r. ⌜ checkedSays r ≡ thenSays asked (flagsLengths shape flags totals) ⌝ }
+{
+    match asked {
         Checked::Refused(number) => Checked::Refused(number),
         Checked::Taken(sizes) => {
             let rows = shape.rows;
@@ -29,10 +47,17 @@ pub fn check_flags(shape: Shape, flags: usize, totals: usize) -> Checked
 }
 
 // The same, and 6 on the counters.
-pub fn check_rows(shape: Shape, counters: usize, flags: usize, totals: usize) -> Checked
-    ensures { λ r. ⌜ checkedSays r ≡ sizesIf (firstNo (callQuestions shape [] (rowsLengths shape counters flags totals) [])) shape ⌝ }
+pub fn check_rows(
+    asked: Checked,
+    shape: Shape,
+    counters: usize,
+    flags: usize,
+    totals: usize,
+) -> Checked
+    requires { ⌜ TellsOf shape asked ⌝ }
+    ensures { λ r. ⌜ checkedSays r ≡ thenSays asked (rowsLengths shape counters flags totals) ⌝ }
 {
-    match check_flags(shape, flags, totals) {
+    match check_flags(asked, shape, flags, totals) {
         Checked::Refused(number) => Checked::Refused(number),
         Checked::Taken(sizes) => {
             let rows = shape.rows;
@@ -46,15 +71,17 @@ pub fn check_rows(shape: Shape, counters: usize, flags: usize, totals: usize) ->
 
 // The same, and 6 on the cells.
 pub fn check_memory(
+    asked: Checked,
     shape: Shape,
     cells: usize,
     counters: usize,
     flags: usize,
     totals: usize,
 ) -> Checked
-    ensures { λ r. ⌜ checkedSays r ≡ sizesIf (firstNo (callQuestions shape [] (memoryLengths shape cells counters flags totals) [])) shape ⌝ }
+    requires { ⌜ TellsOf shape asked ⌝ }
+    ensures { λ r. ⌜ checkedSays r ≡ thenSays asked (memoryLengths shape cells counters flags totals) ⌝ }
 {
-    match check_rows(shape, counters, flags, totals) {
+    match check_rows(asked, shape, counters, flags, totals) {
         Checked::Refused(number) => Checked::Refused(number),
         Checked::Taken(sizes) => {
             let rows = shape.rows;
@@ -69,6 +96,7 @@ pub fn check_memory(
 
 // The same, and 6 on the buffer for match bytes.
 pub fn check_matches(
+    asked: Checked,
     shape: Shape,
     cells: usize,
     counters: usize,
@@ -76,10 +104,10 @@ pub fn check_matches(
     totals: usize,
     matches: usize,
 ) -> Checked
-    ensures { λ r. ⌜ checkedSays r
-        ≡ sizesIf (firstNo (callQuestions shape [] (lookupLengths shape cells counters flags totals matches) [])) shape ⌝ }
+    requires { ⌜ TellsOf shape asked ⌝ }
+    ensures { λ r. ⌜ checkedSays r ≡ thenSays asked (lookupLengths shape cells counters flags totals matches) ⌝ }
 {
-    match check_memory(shape, cells, counters, flags, totals) {
+    match check_memory(asked, shape, cells, counters, flags, totals) {
         Checked::Refused(number) => Checked::Refused(number),
         Checked::Taken(sizes) => {
             let rows = shape.rows;

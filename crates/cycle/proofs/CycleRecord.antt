@@ -1,27 +1,28 @@
--- The cycle record of a count: open below the cycle's length and complete from it on; and the records that question 9 takes. Assumes nothing.
+-- The cycle record of a number of digits skipped and a count: open below the cycle's length and complete from it on; and the records that
+-- question 9 takes. Assumes nothing.
 use mathlib.Core.Path.{_≡_, refl, sym, ap, _∙_}
 use mathlib.Core.Bool.{Bool, true, false, cond, _&&_, and-eq-true-iff, false≢true}
-use Prim.Native.Nat.{ℕ, suc, _-_, _^_, _≤_, _<_}
-use native.Mathlib.Nat.{le-trans, one-le-mul, pow-le-pow-left}
+use Prim.Native.Nat.{ℕ, suc, _-_, _≤_, _<_}
+use native.Mathlib.Nat.{one-le-mul}
 use native.Mathlib.Omega.{arith}
 use lib.Dec.{eqb, ltb}
 use lib.ListN.{length}
-use lib.Pow.{pow-mono}
 use borrow.Author.Tests.{eqb-true, eq-eqb, ltb-true, lt-ltb, le-ltb}
-use Rattle.parity.specs.Shape.{levels, checks}
+use Rattle.parity.specs.Shape.{checks}
 use Rattle.parity.specs.Matrix.{matrixOnes, lookups}
 use Rattle.parity.specs.Questions.{Taken}
 use Rattle.parity.specs.declared.Shape.{Shape}
-use Rattle.parity.proofs.Taken.{limits}
 use Rattle.parity.proofs.Redundancy.{redundancyClaim}
-use Rattle.schedule.specs.Schedule.{full, Entry, schedule}
+use Rattle.schedule.specs.Schedule.{Entry, schedule}
+use Rattle.schedule.specs.Index.{span}
 use Rattle.schedule.proofs.Support.{support-some}
 use Rattle.schedule.proofs.Length.{lengthClaim}
-use Rattle.cycle.specs.Record.{samePlace, entryAt, openAt, completeAt, cycleAt, isOpen, isNext, placeOf}
+use Rattle.cycle.specs.Record.{samePlace, entryAt, nextEntry, openAt, completeAt, cycleAt, isOpen, isNext, placeOf}
 use Rattle.cycle_place.specs.declared.Place.{Place}
 use Rattle.cycle.specs.declared.Cycle.{Cycle}
 use Rattle.cycle.specs.declared.Phase.{Phase}
 use Rattle.cycle.specs.declared.Phase.the-variants.{Idle, Open, Complete}
+use Rattle.cycle.proofs.Spans.{span-less}
 
 pub open-phase : (p : Phase) → isOpen p ≡ true → p ≡ Open
 open-phase Idle e = absurd (false≢true e)
@@ -40,81 +41,98 @@ same-place p q e =
     λ i. record { check = check i; digit = digit i; column = column i; factor = factor i }
 
 -- a cycle has a lookup, so a start leaves an open record
-pub lookups-some : (s : Shape) → Taken s → 0 < lookups s
-unfolding lookups matrixOnes levels
-lookups-some s t =
-    let limit = limits s t in
-    let two : 2 ≤ s .radix ^ s .digits = le-trans (pow-mono (limit .digitsLow)) (pow-le-pow-left (limit .radixLow) (s .digits)) in
+pub lookups-some : (z : ℕ) (s : Shape) → Taken s → z < s .digits → 0 < lookups z s
+unfolding lookups matrixOnes span
+lookups-some z s t h =
+    let less = span-less s t z h in
     let last : ℕ = checks s - 1 in
     let some : checks s ≡ suc last = omega (arith, redundancyClaim s t .low) in
     one-le-mul (omega arith)
     (rw some (omega (arith, support-some s t last (omega arith))))
 
-module _ (s : Shape) where
-  pub record-count : (c : ℕ) → cycleAt s c .count ≡ c
+-- an idle record has no lookup to come
+pub next-idle : (s : Shape) (cycle : Cycle) → cycle .phase ≡ Idle → isNext s cycle ≡ false
+unfolding isNext
+next-idle s cycle e = rw e refl
+
+module _ (z : ℕ) (s : Shape) where
+  -- the count and the digits skipped, open or complete
+  record-told : (c : ℕ) → (cycleAt z s c .count ≡ c) × (cycleAt z s c .skip ≡ z)
   unfolding cycleAt
-  record-count c = go (ltb c (length (schedule full s)))
+  record-told c = go (ltb c (length (schedule z s)))
     where
-      go : (b : Bool) → cond b (openAt (placeOf (entryAt s c)) c) (completeAt c) .count ≡ c
-      go true = refl
-      go false = refl
+      go : (b : Bool) → let cycle = cond b (openAt z (placeOf (entryAt z s c)) c) (completeAt z c) in (cycle .count ≡ c) × (cycle .skip ≡ z)
+      go true = (refl, refl)
+      go false = (refl, refl)
 
-  -- A record that stands at count c: its phase, its place and its count are those that a start and c accepted steps leave. A further field of
-  -- the record is no part of it.
+  pub record-count : (c : ℕ) → cycleAt z s c .count ≡ c
+  record-count c = record-told c .0
+
+  pub record-skip : (c : ℕ) → cycleAt z s c .skip ≡ z
+  record-skip c = record-told c .1
+
+  -- A record that stands at count c: its phase, its place, its count and the digits that it skips are those that a start with z and c accepted
+  -- steps leave. A further field of the record is no part of it.
   pub record Stands (c : ℕ) (cycle : Cycle) : Type 0 where
-    pub phase : cycle .phase ≡ cycleAt s c .phase
-    pub place : cycle .place ≡ cycleAt s c .place
+    pub phase : cycle .phase ≡ cycleAt z s c .phase
+    pub place : cycle .place ≡ cycleAt z s c .place
     pub count : cycle .count ≡ c
+    pub skip : cycle .skip ≡ z
 
-  pub stands-at : (c : ℕ) (cycle : Cycle) → cycle ≡ cycleAt s c → Stands c cycle
+  pub stands-at : (c : ℕ) (cycle : Cycle) → cycle ≡ cycleAt z s c → Stands c cycle
   stands-at c cycle e =
-      record { phase = ap (λ r. r .phase) e; place = ap (λ r. r .place) e; count = ap (λ r. r .count) e ∙ record-count c }
+      record {
+        phase = ap (λ r. r .phase) e;
+        place = ap (λ r. r .place) e;
+        count = ap (λ r. r .count) e ∙ record-count c;
+        skip = ap (λ r. r .skip) e ∙ record-skip c;
+      }
 
   -- question 9 asks of these alone
-  pub stands-next : (c : ℕ) (cycle : Cycle) → Stands c cycle → isNext s cycle ≡ isNext s (cycleAt s c)
+  pub stands-next : (c : ℕ) (cycle : Cycle) → Stands c cycle → isNext s cycle ≡ isNext s (cycleAt z s c)
   unfolding isNext
   stands-next c cycle at =
-      let count : cycle .count ≡ cycleAt s c .count = at .count ∙ sym (record-count c) in
-      λ i. isOpen (at .phase i) && ltb (count i) (length (schedule full s)) && samePlace (at .place i) (placeOf (entryAt s (count i)))
-
-  -- an idle record has no lookup to come
-  pub next-idle : (cycle : Cycle) → cycle .phase ≡ Idle → isNext s cycle ≡ false
-  unfolding isNext
-  next-idle cycle e = rw e refl
+      let count : cycle .count ≡ cycleAt z s c .count = at .count ∙ sym (record-count c) in
+      let skip : cycle .skip ≡ cycleAt z s c .skip = at .skip ∙ sym (record-skip c) in
+      λ i.
+      isOpen (at .phase i) && ltb (count i) (length (schedule (skip i) s)) && samePlace (at .place i) (placeOf (entryAt (skip i) s (count i)))
 
   module _ (t : Taken s) (c : ℕ) where
-    pub record-open : c < lookups s → cycleAt s c ≡ openAt (placeOf (entryAt s c)) c
+    pub record-open : c < lookups z s → cycleAt z s c ≡ openAt z (placeOf (entryAt z s c)) c
     unfolding cycleAt
-    record-open h = rw (lt-ltb c (length (schedule full s)) (rw (lengthClaim s t) h))
+    record-open h = rw (lt-ltb c (length (schedule z s)) (rw (lengthClaim z s t) h))
 
-    pub record-complete : lookups s ≤ c → cycleAt s c ≡ completeAt c
+    pub record-complete : lookups z s ≤ c → cycleAt z s c ≡ completeAt z c
     unfolding cycleAt
-    record-complete h = rw (le-ltb c (length (schedule full s)) (rw (lengthClaim s t) h))
+    record-complete h = rw (le-ltb c (length (schedule z s)) (rw (lengthClaim z s t) h))
 
-    pub next-open : c < lookups s → isNext s (cycleAt s c) ≡ true
+    pub next-open : c < lookups z s → isNext s (cycleAt z s c) ≡ true
     unfolding isNext
     next-open h =
-        let e : Entry = entryAt s c in
+        let e : Entry = entryAt z s c in
         rw (record-open h)
         (simp (
-          lt-ltb c (length (schedule full s)) (rw (lengthClaim s t) h),
+          lt-ltb c (length (schedule z s)) (rw (lengthClaim z s t) h),
           eq-eqb (e .check) (e .check) refl,
           eq-eqb (e .digit) (e .digit) refl,
           eq-eqb (e .column) (e .column) refl,
           eq-eqb (e .factor) (e .factor) refl,
         ))
 
-    pub next-complete : lookups s ≤ c → isNext s (cycleAt s c) ≡ false
+    pub next-complete : lookups z s ≤ c → isNext s (cycleAt z s c) ≡ false
     unfolding isNext
     next-complete h = rw (record-complete h)
 
-  pub next-record : Taken s → (cycle : Cycle) → isNext s cycle ≡ true → (cycle .count < lookups s) × (cycle ≡ cycleAt s (cycle .count))
-  unfolding isNext
-  next-record t cycle e =
-      let entry : Entry = entryAt s (cycle .count) in
-      let both = and-eq-true-iff _ (samePlace (cycle .place) (placeOf entry)) .0 e in
-      let two = and-eq-true-iff (isOpen (cycle .phase)) (ltb (cycle .count) (length (schedule full s))) .0 (both .0) in
-      let lt : cycle .count < lookups s = rw (lengthClaim s t) at (ltb-true (cycle .count) (length (schedule full s)) (two .1)) in
-      let phase = open-phase (cycle .phase) (two .0) in
-      let place = same-place (cycle .place) (placeOf entry) (both .1) in
-      (lt, (λ i. record { phase = phase i; place = place i; count = cycle .count }) ∙ sym (record-open t (cycle .count) lt))
+pub next-record :
+    (s : Shape) → Taken s → (cycle : Cycle) → isNext s cycle ≡ true
+    → (cycle .count < lookups (cycle .skip) s) × (cycle ≡ cycleAt (cycle .skip) s (cycle .count))
+unfolding isNext
+next-record s t cycle e =
+    let z : ℕ = cycle .skip in
+    let entry : Entry = nextEntry s cycle in
+    let both = and-eq-true-iff _ (samePlace (cycle .place) (placeOf entry)) .0 e in
+    let two = and-eq-true-iff (isOpen (cycle .phase)) (ltb (cycle .count) (length (schedule z s))) .0 (both .0) in
+    let lt : cycle .count < lookups z s = rw (lengthClaim z s t) at (ltb-true (cycle .count) (length (schedule z s)) (two .1)) in
+    let phase = open-phase (cycle .phase) (two .0) in
+    let place = same-place (cycle .place) (placeOf entry) (both .1) in
+    (lt, (λ i. record { phase = phase i; place = place i; count = cycle .count; skip = z }) ∙ sym (record-open z s t (cycle .count) lt))

@@ -35,7 +35,7 @@ followed-append f (c ∷ cs) ys x = followed-append f cs ys (f x c)
 
 leaves-after : (s : Shape) (st : State) (c : Call) (next : State) → Leaves s st c next → after s st c ≡ next
 leaves-after s st clear next (r, e, same) = ap (λ r. r .state) e ∙ same
-leaves-after s st start next (r, e, same) = ap (λ r. r .state) e ∙ same
+leaves-after s st (start z) next (r, e, same) = ap (λ r. r .state) e ∙ same
 leaves-after s st (program row given) next (r, e, same) = ap (λ r. r .state) e ∙ same
 leaves-after s st (drift row column level) next (r, e, same) = ap (λ r. stateOf (r .state) (st .cycle)) e ∙ same
 leaves-after s st (lookup inputs matches) next (r, e, same) = ap (λ r. stateOf (r .state) (st .cycle)) e ∙ same

@@ -1,7 +1,7 @@
--- The spans q / ρ^d of the digits: q at digit 0, each ρ times the next, and 1 past the last digit. Assumes nothing.
+-- The spans q / ρ^d of the digits: each ρ times the next, and 1 past the last digit. Assumes nothing.
 use mathlib.Core.Path.{_≡_, sym, ap, _∙_}
 use Prim.Native.Nat.{ℕ, suc, _+_, _-_, _*_, _/_, _^_, _≤_, _<_}
-use native.Mathlib.Nat.{div-self, div-one, mul-div-cancel, div-le-self, pow-zero, one-le-pow}
+use native.Mathlib.Nat.{div-self, mul-div-cancel, div-le-self, one-le-pow}
 use native.Mathlib.Omega.{arith}
 use lib.Pow.{pow-add}
 use Rattle.parity.specs.Shape.{levels}
@@ -13,14 +13,19 @@ use Rattle.schedule.proofs.Powers.{quotient-next}
 use Rattle.schedule.proofs.Factors.{factors-some}
 use Rattle.schedule.proofs.Ranks.{span-some, span-step}
 
-module _ (s : Shape) where
-  pub span-first : span s 0 ≡ levels s
-  unfolding span
-  span-first = rw (pow-zero, div-one)
-
 module _ (s : Shape) (t : Taken s) where
   two : 2 ≤ s .radix
   two = limits s t .radixLow
+
+  -- a span is a power of ρ
+  span-as : (d : ℕ) → d ≤ s .digits → span s d ≡ s .radix ^ (s .digits - d)
+  unfolding span levels
+  span-as d le =
+      let ρ = s .radix in
+      let parts : s .digits ≡ s .digits - d + d = omega arith in
+      ap (λ b. ρ ^ b / ρ ^ d) parts
+      ∙ ap (λ p. p / ρ ^ d) (pow-add ρ (s .digits - d) d)
+      ∙ mul-div-cancel (ρ ^ (s .digits - d)) (one-le-pow d ρ (omega (arith, two)))
 
   pub span-end : span s (s .digits) ≡ 1
   unfolding span levels
@@ -37,14 +42,18 @@ module _ (s : Shape) (t : Taken s) where
 
     -- the next span as the code makes it
     pub span-power : s .radix ^ (s .digits - d - 1) ≡ span s (suc d)
-    unfolding span levels
     span-power =
-        let ρ = s .radix in
-        let parts : s .digits ≡ s .digits - d - 1 + suc d = omega arith in
-        sym
-        (ap (λ b. ρ ^ b / ρ ^ suc d) parts
-        ∙ ap (λ p. p / ρ ^ suc d) (pow-add ρ (s .digits - d - 1) (suc d))
-        ∙ mul-div-cancel (ρ ^ (s .digits - d - 1)) (one-le-pow (suc d) ρ (omega (arith, two))))
+        let same : s .digits - d - 1 ≡ s .digits - suc d = omega arith in
+        ap (λ e. s .radix ^ e) same ∙ sym (span-as (suc d) h)
+
+    -- .. and that of a digit z below from the own one
+    pub span-down : (z : ℕ) → z ≤ d → span s d * s .radix ^ (d - z) ≡ span s z
+    span-down z le =
+        let parts : s .digits - z ≡ s .digits - d + (d - z) = omega arith in
+        ap (λ x. x * s .radix ^ (d - z)) (span-as d (omega arith))
+        ∙ sym (pow-add (s .radix) (s .digits - d) (d - z))
+        ∙ ap (λ e. s .radix ^ e) (sym parts)
+        ∙ sym (span-as z (omega arith))
 
     -- a digit has a factor, so the next span is less
     pub span-less : (0 < span s (suc d)) × (span s (suc d) < span s d)

@@ -14,7 +14,7 @@ use Rattle.parity.specs.Shape.{columns}
 use Rattle.parity.specs.Questions.{Taken}
 use Rattle.parity.specs.declared.Shape.{Shape}
 use Rattle.parity.proofs.ListLaws.{length-tabulate, getD-tabulate, tabulate-same, tabulate-constant}
-use Rattle.schedule.specs.Schedule.{full, within, testVector, schedule}
+use Rattle.schedule.specs.Schedule.{within, testVector, schedule}
 use Rattle.schedule.specs.Index.{supportSize, rank, span, endsAt, entryOf}
 use Rattle.schedule.specs.Line.{counted, flagged, reset}
 use Rattle.schedule.proofs.Cap.{Proper, schedule-proper}
@@ -26,7 +26,7 @@ use Rattle.array_memory.specs.Blocks.{blockTotals}
 use Rattle.array_memory.specs.Geometry.{rowAt, rowMatch, matchBytes}
 use Rattle.array_memory.specs.Memory.{cellCount}
 use Rattle.array_memory.proofs.RowPlaces.{row-sized}
-use Rattle.cycle.specs.Record.{entryAt, isNext}
+use Rattle.cycle.specs.Record.{entryAt, nextEntry, isNext}
 use Rattle.cycle.specs.Calls.{State, countedRows, flaggedRows, totalledBlocks, resetRows, stepMatches, steppedMemory}
 use Rattle.cycle.specs.Places.{standingAt}
 use Rattle.cycle.specs.declared.Cycle.{Cycle}
@@ -37,19 +37,20 @@ use Rattle.cycle.proofs.Places.{next-place}
 -- ---- the entry of a record that question 9 takes
 
 module _ (s : Shape) (t : Taken s) (cycle : Cycle) (next : isNext s cycle ≡ true) where
-  pub next-entry : entryAt s (cycle .count) ≡ entryOf s (cycle .place .check) (cycle .place .digit) (cycle .place .column) (cycle .place .factor)
+  pub next-entry :
+      nextEntry s cycle ≡ entryOf (cycle .skip) s (cycle .place .check) (cycle .place .digit) (cycle .place .column) (cycle .place .factor)
   unfolding entryAt
   next-entry =
       let (place, index) = next-place s t cycle next in
-      ap (entryAt s) (sym index)
-      ∙ indexClaim s t .stands (cycle .place .check) (cycle .place .digit) (cycle .place .column) (cycle .place .factor) place .1 (within 0 0 0 0)
+      ap (entryAt (cycle .skip) s) (sym index)
+      ∙ indexClaim (cycle .skip) s t .stands (cycle .place .check) (cycle .place .digit) (cycle .place .column) (cycle .place .factor) place .1 (within 0 0 0 0)
 
   -- its column and its input are within their bounds
-  pub next-proper : Proper s (entryOf s (cycle .place .check) (cycle .place .digit) (cycle .place .column) (cycle .place .factor))
+  pub next-proper : Proper s (entryOf (cycle .skip) s (cycle .place .check) (cycle .place .digit) (cycle .place .column) (cycle .place .factor))
   unfolding entryAt
   next-proper =
-      let below : cycle .count < length (schedule full s) = rw (lengthClaim s t) (next-record s t cycle next .0) in
-      subst (Proper s) next-entry (schedule-proper full s t (cycle .count) below (within 0 0 0 0))
+      let below : cycle .count < length (schedule (cycle .skip) s) = rw (lengthClaim (cycle .skip) s t) (next-record s t cycle next .0) in
+      subst (Proper s) next-entry (schedule-proper (cycle .skip) s t (cycle .count) below (within 0 0 0 0))
 
   pub next-rank : rank s (cycle .place .check) (cycle .place .column) < supportSize s (cycle .place .check)
   unfolding supportSize
@@ -57,17 +58,17 @@ module _ (s : Shape) (t : Taken s) (cycle : Cycle) (next : isNext s cycle ≡ tr
       let place = next-place s t cycle next .0 in
       stands-support s t (cycle .place .check) (cycle .place .column) (place .column) (place .held) .0
 
-  -- whether rows are flagged after it, and with digit 0 counters return to 0
+  -- whether rows are flagged after it, and with digit z counters return to 0
   pub next-ends :
       (standing : Standing) → standing ≡ standingAt s (cycle .place)
-      → entryAt s (cycle .count) .flags ≡ eqb (suc (standing .rank)) (standing .size) && eqb (suc (cycle .place .factor)) (standing .span)
+      → nextEntry s cycle .flags ≡ eqb (suc (standing .rank)) (standing .size) && eqb (suc (cycle .place .factor)) (standing .span)
   unfolding endsAt
   next-ends standing e =
       ap (λ e. e .flags) next-entry
       ∙ ap (λ r. eqb (suc (r .rank)) (r .size) && eqb (suc (cycle .place .factor)) (r .span)) (sym e)
 
-  pub next-resets : entryAt s (cycle .count) .resets ≡ entryAt s (cycle .count) .flags && eqb (cycle .place .digit) 0
-  next-resets = ap (λ e. e .resets) next-entry ∙ ap (λ e. e .flags && eqb (cycle .place .digit) 0) (sym next-entry)
+  pub next-resets : nextEntry s cycle .resets ≡ nextEntry s cycle .flags && eqb (cycle .place .digit) (cycle .skip)
+  next-resets = ap (λ e. e .resets) next-entry ∙ ap (λ e. e .flags && eqb (cycle .place .digit) (cycle .skip)) (sym next-entry)
 
 -- ---- the lookup
 
@@ -102,7 +103,7 @@ module _ (s : Shape) (st : State) where
 
   pub step-matches-low : (i : ℕ) → i < s .rows → getD (stepMatches s st) i 0 ≤ 1
   unfolding stepMatches matchBytes rowMatch
-  step-matches-low i h = rw getD-tabulate (match-low (testVector s (entryAt s (st .cycle .count))) (rowAt (columns s) (st .memory .cells) i))
+  step-matches-low i h = rw getD-tabulate (match-low (testVector s (nextEntry s (st .cycle))) (rowAt (columns s) (st .memory .cells) i))
 
 -- ---- flags and counters at the end of a lookup
 
@@ -131,22 +132,22 @@ module _ (s : Shape) (st : State) where
   unfolding countedRows
   tally-length = length-tabulate (s .rows) _
 
-  pub counters-kept : entryAt s (st .cycle .count) .resets ≡ false → tally ≡ steppedMemory s st .counters
+  pub counters-kept : nextEntry s (st .cycle) .resets ≡ false → tally ≡ steppedMemory s st .counters
   unfolding steppedMemory resetRows reset
   counters-kept e = rw e (sym (tabulate-list (s .rows) tally tally-length))
 
   pub counters-reset :
-      entryAt s (st .cycle .count) .resets ≡ true → {counters zeros : List ℕ} → counters ≡ tally → zeros ≡ replicate (length counters) 0
+      nextEntry s (st .cycle) .resets ≡ true → {counters zeros : List ℕ} → counters ≡ tally → zeros ≡ replicate (length counters) 0
       → zeros ≡ steppedMemory s st .counters
   unfolding steppedMemory resetRows reset
   counters-reset e made zero = zero ∙ rw (made, tally-length, e) (sym (tabulate-constant (s .rows) 0))
 
-  pub flags-kept : entryAt s (st .cycle .count) .flags ≡ false → length (st .memory .flags) ≡ s .rows → st .memory .flags ≡ steppedMemory s st .flags
+  pub flags-kept : nextEntry s (st .cycle) .flags ≡ false → length (st .memory .flags) ≡ s .rows → st .memory .flags ≡ steppedMemory s st .flags
   unfolding steppedMemory flaggedRows flagged
   flags-kept e sized = rw e (sym (tabulate-list (s .rows) (st .memory .flags) sized))
 
   pub flags-set :
-      entryAt s (st .cycle .count) .flags ≡ true → length (st .memory .flags) ≡ s .rows → {counters flags : List ℕ} → counters ≡ tally
+      nextEntry s (st .cycle) .flags ≡ true → length (st .memory .flags) ≡ s .rows → {counters flags : List ℕ} → counters ≡ tally
       → flags ≡ tabulate (length (st .memory .flags)) (λ i. cond (eqb (getD counters i 0) 0) (getD (st .memory .flags) i 0) 1)
       → flags ≡ steppedMemory s st .flags
   unfolding steppedMemory flaggedRows flagged
@@ -154,12 +155,12 @@ module _ (s : Shape) (st : State) where
       set ∙ rw (sized, made) (tabulate-same (s .rows) _ _ (λ i h. rw e (cond-not (eqb (getD tally i 0) 0) (getD (st .memory .flags) i 0) 1)))
 
   -- the totals are left, or they are those of the flags
-  pub totals-kept : entryAt s (st .cycle .count) .flags ≡ false → st .memory .totals ≡ steppedMemory s st .totals
+  pub totals-kept : nextEntry s (st .cycle) .flags ≡ false → st .memory .totals ≡ steppedMemory s st .totals
   unfolding steppedMemory totalledBlocks
   totals-kept e = rw e refl
 
   pub totals-counted :
-      entryAt s (st .cycle .count) .flags ≡ true → {flags totals : List ℕ} → flags ≡ steppedMemory s st .flags → totals ≡ blockTotals flags
+      nextEntry s (st .cycle) .flags ≡ true → {flags totals : List ℕ} → flags ≡ steppedMemory s st .flags → totals ≡ blockTotals flags
       → totals ≡ steppedMemory s st .totals
   unfolding steppedMemory totalledBlocks
   totals-counted e made counted = counted ∙ ap blockTotals made ∙ rw e refl

@@ -1,20 +1,21 @@
 -- What start and step do to a state with buffers of their lengths: to the record, and to the lines of the rows. Assumes nothing.
 use mathlib.Core.Path.{_≡_, refl, sym, ap, ap₂, _∙_}
 use mathlib.Core.Bool.{Bool, true, false, cond, _&&_}
-use mathlib.Core.List.{List}
+use mathlib.Core.List.{List, []}
 use Prim.Native.Nat.{ℕ, suc, _<_}
 use native.Mathlib.Omega.{arith}
-use lib.Dec.{eqb}
+use lib.Dec.{eqb, ltb}
 use lib.ListN.{length, getD, take, replicate, length-replicate, getD-replicate}
 use lib.Seq.{take-all}
+use borrow.Author.Tests.{lt-ltb}
 use Rattle.parity.specs.Shape.{levels, columns}
 use Rattle.parity.specs.Matrix.{lookups}
-use Rattle.parity.specs.Codeword.{isCodeword}
 use Rattle.parity.specs.Claims.{Below}
 use Rattle.parity.specs.Questions.{Taken}
 use Rattle.parity.specs.declared.Shape.{Shape}
 use Rattle.parity.proofs.ListLaws.{length-tabulate, getD-tabulate}
-use Rattle.schedule.specs.Schedule.{full, within, schedule}
+use Rattle.schedule.specs.Schedule.{within, schedule}
+use Rattle.schedule.specs.Coarse.{isBalancedFrom}
 use Rattle.schedule.specs.Line.{Line, lineStep, lineRun, freshLine}
 use Rattle.schedule.proofs.Length.{lengthClaim}
 use Rattle.schedule.proofs.Flags.{flag-test}
@@ -22,11 +23,10 @@ use Rattle.schedule.proofs.Runs.{lineRun-take}
 use Rattle.schedule.proofs.Digit.{line}
 use Rattle.parity.specs.Questions.{ifTaken}
 use Rattle.shape.specs.Answers.{accepted, refused, giving, calling}
-use Rattle.shape.proofs.Calling.{call-done}
 use Rattle.array_memory.specs.Geometry.{rowAt, rowMatch, matchBytes}
 use Rattle.array_memory.specs.Blocks.{blocksOf, blocks, blockTotals}
 use Rattle.array_memory.specs.Memory.{Memory, withCells, noMemory, RowsSized, Sized, cellCount}
-use Rattle.cycle.specs.Record.{entryAt, cycleAt, isNext}
+use Rattle.cycle.specs.Record.{entryAt, nextEntry, cycleAt, isNext}
 use Rattle.cycle.specs.Calls.{State, zeroRows, cleared, fresh, started, startCall, countedRows, flaggedRows, resetRows, stepMatches}
 use Rattle.cycle.specs.Calls.{totalledBlocks, steppedMemory, stepped, stepCall}
 use Rattle.cycle.specs.Run.{start, step, after}
@@ -37,8 +37,8 @@ abbrev pub lineAt : State → ℕ → Line
 lineAt st i = line (getD (st .memory .counters) i 0) (getD (st .memory .flags) i 0)
 
 -- each row's line is that of the first c lookups of the schedule
-abbrev pub Lines : Shape → State → ℕ → Type 0
-Lines s st c = (i : ℕ) → i < s .rows → lineAt st i ≡ lineRun s (rowAt (columns s) (st .memory .cells) i) (take c (schedule full s)) freshLine
+abbrev pub Lines : ℕ → Shape → State → ℕ → Type 0
+Lines z s st c = (i : ℕ) → i < s .rows → lineAt st i ≡ lineRun s (rowAt (columns s) (st .memory .cells) i) (take c (schedule z s)) freshLine
 
 -- buffers of zeros have their lengths
 zero-sized : (s : Shape) (mem : Memory) → RowsSized s (zeroRows s mem)
@@ -47,75 +47,87 @@ zero-sized s mem =
     record { counters = length-replicate (s .rows) 0; flags = length-replicate (s .rows) 0; totals = length-replicate (blocks s) 0 }
 
 module _ (s : Shape) (st : State) where
-  pub started-lines : Lines s (started s st) 0
+  pub started-lines : (z : ℕ) → Lines z s (started s st z) 0
   unfolding started zeroRows
-  started-lines i h = ap₂ line (getD-replicate (s .rows) i 0 0 h) (getD-replicate (s .rows) i 0 0 h)
+  started-lines z i h = ap₂ line (getD-replicate (s .rows) i 0 0 h) (getD-replicate (s .rows) i 0 0 h)
 
   -- the three passes of a step, seen in one row
   stepped-line :
       (i : ℕ) → i < s .rows
-      → lineAt (stepped s st) i ≡ lineStep s (rowAt (columns s) (st .memory .cells) i) (entryAt s (st .cycle .count)) (lineAt st i)
+      → lineAt (stepped s st) i ≡ lineStep s (rowAt (columns s) (st .memory .cells) i) (nextEntry s (st .cycle)) (lineAt st i)
   unfolding stepped steppedMemory lineStep resetRows flaggedRows countedRows stepMatches matchBytes rowMatch
   stepped-line i h = simp getD-tabulate
 
-  pub stepped-lines : Taken s → (c : ℕ) → c < lookups s → st .cycle .count ≡ c → Lines s st c → Lines s (stepped s st) (suc c)
+  pub stepped-lines :
+      Taken s → (z c : ℕ) → c < lookups z s → st .cycle .skip ≡ z → st .cycle .count ≡ c → Lines z s st c → Lines z s (stepped s st) (suc c)
   unfolding stepped steppedMemory entryAt
-  stepped-lines t c h e lines i l =
+  stepped-lines t z c h own e lines i l =
       let row : List ℕ = rowAt (columns s) (st .memory .cells) i in
       stepped-line i l
-      ∙ ap₂ (λ n. lineStep s row (entryAt s n)) e (lines i l)
-      ∙ sym (lineRun-take s row (schedule full s) c (rw (lengthClaim s t) h) (within 0 0 0 0) freshLine)
+      ∙ (λ k. lineStep s row (entryAt (own k) s (e k)) (lines i l k))
+      ∙ sym (lineRun-take s row (schedule z s) c (rw (lengthClaim z s t) h) (within 0 0 0 0) freshLine)
 
-  -- after the whole schedule a row's flag says whether it is sound
+  -- after the whole schedule a row's flag says whether its digit sums from z on are 0
   pub lines-ended :
-      Taken s → Lines s st (lookups s) → (i : ℕ) → i < s .rows → length (rowAt (columns s) (st .memory .cells) i) ≡ columns s
+      Taken s → (z : ℕ) → Lines z s st (lookups z s) → (i : ℕ) → i < s .rows → length (rowAt (columns s) (st .memory .cells) i) ≡ columns s
       → Below (levels s) (columns s) (rowAt (columns s) (st .memory .cells) i)
-      → getD (st .memory .flags) i 0 ≡ cond (isCodeword s (rowAt (columns s) (st .memory .cells) i)) 0 1
-  lines-ended t lines i h sized below =
+      → getD (st .memory .flags) i 0 ≡ cond (isBalancedFrom z s (rowAt (columns s) (st .memory .cells) i)) 0 1
+  lines-ended t z lines i h sized below =
       let row : List ℕ = rowAt (columns s) (st .memory .cells) i in
       ap (λ l. l .flag)
       (lines i h
-      ∙ ap (λ es. lineRun s row es freshLine) (take-all (lookups s) (schedule full s) (omega (arith, lengthClaim s t)))
-      ∙ flag-test s t row sized below)
+      ∙ ap (λ es. lineRun s row es freshLine) (take-all (lookups z s) (schedule z s) (omega (arith, lengthClaim z s t)))
+      ∙ flag-test z s t row sized below)
 
-  pub stepped-cycle : (c : ℕ) → st .cycle .count ≡ c → stepped s st .cycle ≡ cycleAt s (suc c)
+  pub stepped-cycle : (z c : ℕ) → st .cycle .skip ≡ z → st .cycle .count ≡ c → stepped s st .cycle ≡ cycleAt z s (suc c)
   unfolding stepped
-  stepped-cycle c e = ap (λ n. cycleAt s (suc n)) e
+  stepped-cycle z c own e = ap₂ (λ z n. cycleAt z s (suc n)) own e
 
-  module _ (z : Sized s (st .memory)) where
-    pub started-sized : Sized s (started s st .memory)
+  module _ (lent : Sized s (st .memory)) where
+    pub started-sized : (z : ℕ) → Sized s (started s st z .memory)
     unfolding started zeroRows
-    started-sized = record { cells = z .cells; rows = zero-sized s (st .memory) }
+    started-sized z = record { cells = lent .cells; rows = zero-sized s (st .memory) }
 
     -- the totals are counted anew, or left
     totalled-length : (flags : List ℕ) → length flags ≡ s .rows → (b : Bool) → length (cond b (blockTotals flags) (st .memory .totals)) ≡ blocks s
     unfolding blockTotals
     totalled-length flags sized true = length-tabulate (blocksOf (length flags)) _ ∙ ap blocksOf sized
-    totalled-length flags sized false = z .rows .totals
+    totalled-length flags sized false = lent .rows .totals
 
     pub stepped-sized : Sized s (stepped s st .memory)
     unfolding stepped steppedMemory resetRows flaggedRows totalledBlocks
     stepped-sized =
         record {
-          cells = z .cells;
+          cells = lent .cells;
           rows =
               record {
                 counters = length-tabulate (s .rows) _;
                 flags = length-tabulate (s .rows) _;
-                totals = totalled-length _ (length-tabulate (s .rows) _) (entryAt s (st .cycle .count) .flags);
+                totals = totalled-length _ (length-tabulate (s .rows) _) (nextEntry s (st .cycle) .flags);
               };
         }
 
-    pub start-state : Taken s → after s st start ≡ started s st
-    unfolding startCall
-    start-state t = ap (λ r. r .state) (call-done _ _ st _ (start-asked s t st z))
+    -- a start is taken where it skips less than all digits
+    pub start-state : Taken s → (z : ℕ) → after s st (start z) ≡ cond (ltb z (s .digits)) (started s st z) st
+    unfolding startCall calling
+    start-state t z = rw (after, start-asked s t st lent z) (both (ltb z (s .digits)))
+      where
+        both :
+            (a : Bool)
+            → ifTaken (cond a 0 15) (giving (accepted 0) [] (started s st z)) (giving (refused 0 (cond a 0 15)) [] st) .state
+            ≡ cond a (started s st z) st
+        both true = refl
+        both false = refl
+
+    pub start-done : Taken s → (z : ℕ) → z < s .digits → after s st (start z) ≡ started s st z
+    start-done t z h = start-state t z ∙ ap (λ b. cond b (started s st z) st) (lt-ltb z (s .digits) h)
 
     -- a step is taken where the buffer has its length and the record a lookup to come
     pub step-state :
         Taken s → (matches : List ℕ)
         → after s st (step matches) ≡ cond (eqb (length matches) (s .rows) && isNext s (st .cycle)) (stepped s st) st
     unfolding stepCall calling
-    step-state t matches = rw (after, step-asked s t st z matches) (both (eqb (length matches) (s .rows)) (isNext s (st .cycle)))
+    step-state t matches = rw (after, step-asked s t st lent matches) (both (eqb (length matches) (s .rows)) (isNext s (st .cycle)))
       where
         both :
             (a b : Bool)

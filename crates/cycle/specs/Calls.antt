@@ -5,7 +5,7 @@ use Prim.Native.Nat.{ℕ, suc}
 use lib.ListN.{length, getD, replicate}
 use Rattle.parity.specs.Lists.{tabulate}
 use Rattle.parity.specs.Shape.{columns}
-use Rattle.parity.specs.Questions.{Question, callQuestions, lengthQuestion}
+use Rattle.parity.specs.Questions.{Question, callQuestions, skipQuestion, lengthQuestion}
 use Rattle.parity.specs.declared.Shape.{Shape}
 use Rattle.shape.specs.Answers.{Result, accepted, giving, calling}
 use Rattle.schedule.specs.Schedule.{Entry, testVector}
@@ -15,7 +15,7 @@ use Rattle.array_memory.specs.Geometry.{matchBytes}
 use Rattle.array_memory.specs.Memory.{Memory, withCells, withRows, noMemory, cellCount, rowsQuestions, memoryQuestions}
 use Rattle.array_memory.specs.Questions.{cellsQuestions, programArguments}
 use Rattle.array.specs.Calls.{programmed}
-use Rattle.cycle.specs.Record.{idle, entryAt, cycleAt, cycleQuestion}
+use Rattle.cycle.specs.Record.{idle, nextEntry, cycleAt, cycleQuestion}
 use Rattle.cycle.specs.declared.Cycle.{Cycle}
 
 -- the lent state of an array: its memory, and the cycle record
@@ -58,16 +58,20 @@ programCall s st row given =
 
 -- ---- start
 
--- 6 on counters, flags and totals
-abbrev pub startQuestions : Shape → Memory → List Question
-startQuestions s mem = callQuestions s [] (rowsQuestions s mem) []
+-- what a start asks of its argument: 15 on the number of digits to skip
+abbrev pub startArguments : Shape → ℕ → List Question
+startArguments s z = skipQuestion s z ∷ []
+
+-- .. and then 6 on counters, flags and totals
+abbrev pub startQuestions : Shape → Memory → ℕ → List Question
+startQuestions s mem z = callQuestions s (startArguments s z) (rowsQuestions s mem) []
 
 -- counters, flags and totals 0, record open, count 0, also when a cycle was open
-unfoldable pub started : Shape → State → State
-started s st = stateOf (zeroRows s (st .memory)) (cycleAt s 0)
+unfoldable pub started : Shape → State → ℕ → State
+started s st z = stateOf (zeroRows s (st .memory)) (cycleAt z s 0)
 
-unfoldable pub startCall : Shape → State → Result State
-startCall s st = calling (startQuestions s (st .memory)) [] st (giving (accepted 0) [] (started s st))
+unfoldable pub startCall : Shape → State → ℕ → Result State
+startCall s st z = calling (startQuestions s (st .memory) z) [] st (giving (accepted 0) [] (started s st z))
 
 -- ---- step
 
@@ -101,19 +105,19 @@ resetRows s e counters = tabulate (s .rows) (λ i. reset e (getD counters i 0))
 
 -- the match bytes of the entry that the record stands at
 unfoldable pub stepMatches : Shape → State → List ℕ
-stepMatches s st = matchBytes (s .rows) (columns s) (testVector s (entryAt s (st .cycle .count))) (st .memory .cells)
+stepMatches s st = matchBytes (s .rows) (columns s) (testVector s (nextEntry s (st .cycle))) (st .memory .cells)
 
 -- the memory after that entry's lookup is made and counted
 unfoldable pub steppedMemory : Shape → State → Memory
 steppedMemory s st =
-    let e = entryAt s (st .cycle .count) in
+    let e = nextEntry s (st .cycle) in
     let counters = countedRows s (st .memory .counters) (stepMatches s st) in
     let flags = flaggedRows s e counters (st .memory .flags) in
     withRows (resetRows s e counters) flags (totalledBlocks e flags (st .memory .totals)) (st .memory)
 
 -- the next lookup of the schedule is made and counted; after the last one the record is complete
 unfoldable pub stepped : Shape → State → State
-stepped s st = stateOf (steppedMemory s st) (cycleAt s (suc (st .cycle .count)))
+stepped s st = stateOf (steppedMemory s st) (cycleAt (st .cycle .skip) s (suc (st .cycle .count)))
 
 unfoldable pub stepCall : Shape → State → List ℕ → Result State
 stepCall s st matches = calling (stepQuestions s st matches) matches st (giving (accepted 0) (stepMatches s st) (stepped s st))

@@ -12,7 +12,7 @@ use Rattle.cycle.specs.Run.{Call, clear, start, program, drift, lookup, 
 -- the state that a call leaves, by the equation of its own contract: all that its definition gives is some result, and that result has the state
 abbrev pub Leaves : Shape → State → Call → State → Type 0
 Leaves s st clear next = (r : Result State) × (clearCall s st ≡ r) × (r .state ≡ next)
-Leaves s st start next = (r : Result State) × (startCall s st ≡ r) × (r .state ≡ next)
+Leaves s st (start z) next = (r : Result State) × (startCall s st z ≡ r) × (r .state ≡ next)
 Leaves s st (program row given) next = (r : Result State) × (programCall s st row given ≡ r) × (r .state ≡ next)
 Leaves s st (drift row column level) next =
     (r : Result Memory) × (driftCall s (st .memory) row column level ≡ r) × (stateOf (r .state) (st .cycle) ≡ next)

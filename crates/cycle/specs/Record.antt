@@ -1,11 +1,11 @@
--- The cycle record as a function of the shape and of the accepted steps since the start.
+-- The cycle record as a function of the digits that its cycle skips, of the shape, and of the accepted steps since the start.
 use mathlib.Core.Bool.{Bool, true, false, cond, _&&_}
 use Prim.Native.Nat.{ℕ}
 use lib.Dec.{eqb, ltb}
 use lib.ListN.{length, getD}
 use Rattle.parity.specs.Questions.{Question}
 use Rattle.parity.specs.declared.Shape.{Shape}
-use Rattle.schedule.specs.Schedule.{Entry, full, within, schedule}
+use Rattle.schedule.specs.Schedule.{Entry, within, schedule}
 use Rattle.cycle_place.specs.declared.Place.{Place}
 use Rattle.cycle.specs.declared.Cycle.{Cycle}
 use Rattle.cycle.specs.declared.Phase.{Phase}
@@ -25,23 +25,27 @@ placeOf e = placeAt (e .check) (e .digit) (e .column) (e .factor)
 
 -- the idle record with count 0
 abbrev pub idle : Cycle
-idle = record { phase = Idle; place = noPlace; count = 0 }
+idle = record { phase = Idle; place = noPlace; count = 0; skip = 0 }
 
--- the open record whose next lookup is at a place
-abbrev pub openAt : Place → ℕ → Cycle
-openAt place c = record { phase = Open; place = place; count = c }
+-- the open record of a cycle that skips the z lowest digits and whose next lookup is at a place
+abbrev pub openAt : ℕ → Place → ℕ → Cycle
+openAt z place c = record { phase = Open; place = place; count = c; skip = z }
 
--- the complete record
-abbrev pub completeAt : ℕ → Cycle
-completeAt c = record { phase = Complete; place = noPlace; count = c }
+-- its complete record
+abbrev pub completeAt : ℕ → ℕ → Cycle
+completeAt z c = record { phase = Complete; place = noPlace; count = c; skip = z }
 
 -- the schedule's entry c, counted from 0
-unfoldable pub entryAt : Shape → ℕ → Entry
-entryAt s c = getD (schedule full s) c (within 0 0 0 0)
+unfoldable pub entryAt : ℕ → Shape → ℕ → Entry
+entryAt z s c = getD (schedule z s) c (within 0 0 0 0)
 
--- the record that a start and c accepted steps leave: open while a vector is still to come, and complete after the last
-unfoldable pub cycleAt : Shape → ℕ → Cycle
-cycleAt s c = cond (ltb c (length (schedule full s))) (openAt (placeOf (entryAt s c)) c) (completeAt c)
+-- the record that a start with z and c accepted steps leave: open while a vector is still to come, and complete after the last
+unfoldable pub cycleAt : ℕ → Shape → ℕ → Cycle
+cycleAt z s c = cond (ltb c (length (schedule z s))) (openAt z (placeOf (entryAt z s c)) c) (completeAt z c)
+
+-- the entry that a record stands at, by its own digits and count
+abbrev pub nextEntry : Shape → Cycle → Entry
+nextEntry s cycle = entryAt (cycle .skip) s (cycle .count)
 
 -- whether a record is open
 abbrev pub isOpen : Phase → Bool
@@ -52,10 +56,11 @@ isOpen Complete = false
 abbrev pub samePlace : Place → Place → Bool
 samePlace p q = eqb (p .check) (q .check) && eqb (p .digit) (q .digit) && eqb (p .column) (q .column) && eqb (p .factor) (q .factor)
 
--- 9: is the record one that a start and accepted steps on this shape leave, with a vector still to come? It is the one with its own count.
+-- 9: is the record one that a start and accepted steps on this shape leave, with a vector still to come? It is the one with its own z and its own
+-- count. A start takes no z of b or more, and no vector is to come there: the schedule is empty.
 unfoldable pub isNext : Shape → Cycle → Bool
 isNext s cycle =
-    isOpen (cycle .phase) && ltb (cycle .count) (length (schedule full s)) && samePlace (cycle .place) (placeOf (entryAt s (cycle .count)))
+    isOpen (cycle .phase) && ltb (cycle .count) (length (schedule (cycle .skip) s)) && samePlace (cycle .place) (placeOf (nextEntry s cycle))
 
 abbrev pub cycleQuestion : Shape → Cycle → Question
 cycleQuestion s cycle = record { number = 9; holds = isNext s cycle }

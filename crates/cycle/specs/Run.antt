@@ -6,9 +6,11 @@ use Rattle.array.specs.Calls.{driftCall}
 use Rattle.array_lookup.specs.Lookups.{lookupCall}
 use Rattle.cycle.specs.Calls.{State, stateOf, fresh, clearCall, programCall, startCall, stepCall}
 
--- A call with its arguments: row and column numbers, levels, inputs and the buffer for match bytes, of any length and contents.
+-- A call with its arguments: numbers of digits, rows and columns, levels, inputs and the buffer for match bytes, of any length and contents.
 pub data Call : Type 0 where
-  clear start : Call
+  clear : Call
+  -- the number of digits to skip
+  start : ℕ → Call
   -- a row's number and levels
   program : ℕ → List ℕ → Call
   -- a row's number, a column's and a level
@@ -21,7 +23,7 @@ pub data Call : Type 0 where
 -- the state after a call, by the call's own definition; a call that has no record leaves it, since the record can't know
 abbrev pub after : Shape → State → Call → State
 after s st clear = clearCall s st .state
-after s st start = startCall s st .state
+after s st (start z) = startCall s st z .state
 after s st (program row given) = programCall s st row given .state
 after s st (drift row column level) = stateOf (driftCall s (st .memory) row column level .state) (st .cycle)
 after s st (lookup inputs matches) = stateOf (lookupCall s (st .memory) inputs matches .state) (st .cycle)

@@ -10,6 +10,7 @@ use array::change::write_row;
 use array_memory::memory::check_matches;
 use array_memory::memory::check_memory;
 use array_memory::memory::check_rows;
+use array_memory::memory::check_skip;
 use array_memory::questions::check_program;
 use cycle_passes::rows::reset_rows;
 use parity::Shape;
@@ -17,6 +18,7 @@ use shape::answer::Outcome;
 use shape::byte::fill;
 use shape::sizes::Checked;
 use shape::sizes::Sizes;
+use shape::sizes::check_shape;
 ghost use mathlib.Core.Path.{_≡_};
 ghost use mathlib.Core.List.{[]};
 ghost use Rattle.parity.specs.Questions.{firstNo, callQuestions};
@@ -59,6 +61,7 @@ impl Cycle {
             ≡ changing r [] (withAll (left cells) (left counters) (left flags) (left totals) mem)) ⌝ }
     {
         match check_memory(
+            check_shape(shape),
             shape,
             cells.len(),
             counters.len(),
@@ -88,25 +91,33 @@ impl Cycle {
         }
     }
 
-    // Start: counters, flags and totals 0, record open, also when a cycle was open.
+    // Start: counters, flags and totals 0, record open, also when a cycle was open. The cycle skips a number of low digits:
+    // 0 for the whole cycle.
     pub fn start(
         self,
         shape: Shape,
+        skip: usize,
         counters: &mut [u8],
         flags: &mut [u8],
         totals: &mut [u8],
     ) -> Changed
-        ensures { λ r. ⌜ ((mem : Memory) → startCall shape (stateOf (withRows (was counters) (was flags) (was totals) mem) self)
+        ensures { λ r. ⌜ ((mem : Memory) → startCall shape (stateOf (withRows (was counters) (was flags) (was totals) mem) self) skip
             ≡ changing r [] (withRows (left counters) (left flags) (left totals) mem)) ⌝ }
     {
-        match check_rows(shape, counters.len(), flags.len(), totals.len()) {
+        match check_rows(
+            check_skip(shape, skip),
+            shape,
+            counters.len(),
+            flags.len(),
+            totals.len(),
+        ) {
             Checked::Refused(number) => refused(self, number),
             Checked::Taken(sizes) => {
                 let columns = sizes.columns;
                 let checks = sizes.checks;
                 reset_rows(counters, flags, totals);
                 let matrix = matrix_of(shape, checks);
-                done(Cycle::first(shape, &matrix[..columns]))
+                done(Cycle::first(shape, skip, &matrix[..columns]))
             }
         }
     }
@@ -126,6 +137,7 @@ impl Cycle {
             ≡ changing r (left matches) (withAll (was cells) (left counters) (left flags) (left totals) mem)) ⌝ }
     {
         match check_matches(
+            check_shape(shape),
             shape,
             cells.len(),
             counters.len(),

@@ -17,12 +17,14 @@ pub enum Phase {
     Complete,
 }
 
-// A cycle's phase, the place of its next lookup in the schedule, and the accepted steps since its start.
+// A cycle's phase, the place of its next lookup in the schedule, the accepted steps since its start, and the number of
+// low digits that it skips.
 pub struct Cycle {
     pub phase: Phase,
     // all 0 where no lookup is to come
     pub place: Place,
     pub count: usize,
+    pub skip: usize,
 }
 
 // What a call that has the record gives back beside the bytes that it writes.
@@ -42,26 +44,28 @@ impl Cycle {
             factor: 0,
         },
         count: 0,
+        skip: 0,
     };
 
-    // The lookups of the longest cycle: 255 by the 1,024 ones of the largest check matrix. No record that
+    // The lookups of the longest cycle: 255 by the 1,024 ones of the largest check matrix, no digit skipped. No record that
     // a start and accepted steps leave has a larger count.
     pub const MAX_COUNT: usize = 261120;
 
     // The open record whose next lookup is at a place of the schedule.
-    pub fn open(place: Place, count: usize) -> Self
-        ensures { λ r. ⌜ r ≡ openAt place count ⌝ }
+    pub fn open(skip: usize, place: Place, count: usize) -> Self
+        ensures { λ r. ⌜ r ≡ openAt skip place count ⌝ }
     {
         Self {
             phase: Phase::Open,
             place,
             count,
+            skip,
         }
     }
 
     // The record after a cycle's last lookup.
-    pub fn complete(count: usize) -> Self
-        ensures { λ r. ⌜ r ≡ completeAt count ⌝ }
+    pub fn complete(skip: usize, count: usize) -> Self
+        ensures { λ r. ⌜ r ≡ completeAt skip count ⌝ }
     {
         Self {
             phase: Phase::Complete,
@@ -72,6 +76,7 @@ impl Cycle {
                 factor: 0,
             },
             count,
+            skip,
         }
     }
 
@@ -88,7 +93,7 @@ impl Cycle {
 
     // Whether some cycle has this many accepted steps.
     pub(crate) fn within_longest(self) -> bool
-        ensures { λ r. ⌜ r ≡ leb (self .count) (lookups longestShape) ⌝ }
+        ensures { λ r. ⌜ r ≡ leb (self .count) (lookups 0 longestShape) ⌝ }
     {
         self.count <= Cycle::MAX_COUNT
     }

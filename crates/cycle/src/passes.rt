@@ -30,7 +30,7 @@ fn ends_digit(standing: Standing, factor: usize) -> bool
 }
 
 // The match bytes, the counters, and, where the lookup ends a digit, the flags and their totals; after the last digit of a
-// check row the counters return to 0.
+// check row, the lowest that is not skipped, the counters return to 0.
 pub(crate) fn look_and_count(
     cycle: Cycle,
     shape: Shape,
@@ -52,6 +52,7 @@ pub(crate) fn look_and_count(
     let factor = cycle.place.factor;
     let digit = cycle.place.digit;
     let column = cycle.place.column;
+    let skip = cycle.skip;
     // a × ρ^s is below q, and so a byte
     let input = scale(factor, radix, digit) as u8;
     match_column(cells, columns, column, input, matches);
@@ -61,7 +62,7 @@ pub(crate) fn look_and_count(
     }
     flag_rows(counters, flags);
     total_blocks(flags, totals);
-    if 0 < digit {
+    if skip < digit {
         return;
     }
     fill(counters, 0);

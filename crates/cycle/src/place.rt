@@ -14,7 +14,7 @@ use shape::byte::wide;
 use shape::sizes::Sizes;
 ghost use mathlib.Core.Path.{_≡_};
 ghost use mathlib.Core.Bool.{true};
-ghost use Prim.Native.Nat.{suc};
+ghost use Prim.Native.Nat.{suc, _<_};
 ghost use Rattle.parity.specs.Matrix.{matrix as matrixOf};
 ghost use Rattle.parity.specs.Questions.{Taken};
 ghost use Rattle.shape.specs.Shapes.{sizesOf};
@@ -42,7 +42,7 @@ pub(crate) fn locate(cycle: Cycle, shape: Shape, sizes: Sizes, matrix: &[u8]) ->
     let digit = cycle.place.digit;
     let column = cycle.place.column;
     let factor = cycle.place.factor;
-    let levels = sizes.levels;
+    let skip = cycle.skip;
     let radix = shape.radix;
     if !cycle.is_open() {
         return Located::Elsewhere;
@@ -54,6 +54,9 @@ pub(crate) fn locate(cycle: Cycle, shape: Shape, sizes: Sizes, matrix: &[u8]) ->
         return Located::Elsewhere;
     }
     if shape.digits <= digit {
+        return Located::Elsewhere;
+    }
+    if digit < skip {
         return Located::Elsewhere;
     }
     if matrix.len() <= column {
@@ -68,6 +71,8 @@ pub(crate) fn locate(cycle: Cycle, shape: Shape, sizes: Sizes, matrix: &[u8]) ->
         return Located::Elsewhere;
     }
     let survey = survey_check(matrix, check, column);
+    // q / ρ^z
+    let levels = scale(span, radix, digit - skip);
     if index_of(levels, radix, factor, next, survey) != cycle.count {
         return Located::Elsewhere;
     }
@@ -80,12 +85,13 @@ pub(crate) fn locate(cycle: Cycle, shape: Shape, sizes: Sizes, matrix: &[u8]) ->
 
 impl Cycle {
     // The record of a cycle before its first lookup.
-    pub(crate) fn first(shape: Shape, matrix: &[u8]) -> Self
-        requires { ⌜ Taken shape × (now matrix ≡ matrixOf shape) ⌝ }
-        ensures { λ r. ⌜ r ≡ cycleAt shape 0 ⌝ }
+    pub(crate) fn first(shape: Shape, skip: usize, matrix: &[u8]) -> Self
+        requires { ⌜ Taken shape × (skip < shape .digits) × (now matrix ≡ matrixOf shape) ⌝ }
+        ensures { λ r. ⌜ r ≡ cycleAt skip shape 0 ⌝ }
     {
         let digits = shape.digits;
         Cycle::open(
+            skip,
             Place {
                 check: 0,
                 digit: digits - 1,
@@ -106,9 +112,10 @@ impl Cycle {
     ) -> Self
         requires { ⌜ Taken shape × (sizes ≡ sizesOf shape) × (now matrix ≡ matrixOf shape) ⌝ }
         requires { ⌜ (isNext shape self ≡ true) × (standing ≡ standingAt shape (self .place)) ⌝ }
-        ensures { λ r. ⌜ r ≡ cycleAt shape (suc (self .count)) ⌝ }
+        ensures { λ r. ⌜ r ≡ cycleAt (self .skip) shape (suc (self .count)) ⌝ }
     {
         let mut place = self.place;
+        let skip = self.skip;
         let check = place.check;
         let digit = place.digit;
         let column = place.column;
@@ -125,7 +132,7 @@ impl Cycle {
             self.place = place;
             return self;
         }
-        if 0 < digit {
+        if skip < digit {
             place.digit = digit - 1;
             place.column = next_held(matrix, check, 0);
             self.place = place;
@@ -138,6 +145,6 @@ impl Cycle {
             self.place = place;
             return self;
         }
-        Cycle::complete(self.count)
+        Cycle::complete(skip, self.count)
     }
 }

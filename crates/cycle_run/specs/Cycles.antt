@@ -11,19 +11,19 @@ use Rattle.schedule.specs.Schedule.{testVector}
 use Rattle.array_memory.specs.Geometry.{matchBytes}
 use Rattle.array_memory.specs.Memory.{Memory}
 use Rattle.cycle.specs.Record.{entryAt}
-use Rattle.cycle.specs.Calls.{State, lentQuestions}
+use Rattle.cycle.specs.Calls.{State, startArguments, lentQuestions}
 use Rattle.cycle.specs.Run.{start, step, runFrom}
 
--- 6 on the memory and the match bytes; not 9, since the call starts a cycle
-abbrev pub cycleQuestions : Shape → Memory → List ℕ → List Question
-cycleQuestions s mem matches = callQuestions s [] (lentQuestions s mem matches) []
+-- 15 on the number of digits to skip, 6 on the memory and the match bytes; not 9, since the call starts a cycle
+abbrev pub cycleQuestions : Shape → Memory → ℕ → List ℕ → List Question
+cycleQuestions s mem z matches = callQuestions s (startArguments s z) (lentQuestions s mem matches) []
 
 -- the match bytes of a cycle's last lookup
-unfoldable pub lastMatches : Shape → Memory → List ℕ
-lastMatches s mem = matchBytes (s .rows) (columns s) (testVector s (entryAt s (lookups s - 1))) (mem .cells)
+unfoldable pub lastMatches : ℕ → Shape → Memory → List ℕ
+lastMatches z s mem = matchBytes (s .rows) (columns s) (testVector s (entryAt z s (lookups z s - 1))) (mem .cells)
 
 -- a start and all the steps of a cycle; the match bytes are those of its last lookup
-unfoldable pub cycleCall : Shape → State → List ℕ → Result State
-cycleCall s st matches =
-    calling (cycleQuestions s (st .memory) matches) matches st
-    (giving (accepted 0) (lastMatches s (st .memory)) (runFrom s st (start ∷ replicate (lookups s) (step matches))))
+unfoldable pub cycleCall : Shape → State → ℕ → List ℕ → Result State
+cycleCall s st z matches =
+    calling (cycleQuestions s (st .memory) z matches) matches st
+    (giving (accepted 0) (lastMatches z s (st .memory)) (runFrom s st (start z ∷ replicate (lookups z s) (step matches))))

@@ -1,5 +1,6 @@
 // One whole detection cycle as one call.
 use array_memory::memory::check_matches;
+use array_memory::memory::check_skip;
 use cycle::Changed;
 use cycle::Cycle;
 use cycle::calls::done;
@@ -7,6 +8,7 @@ use cycle::calls::refused;
 use parity::Shape;
 use shape::sizes::Checked;
 ghost use mathlib.Core.Path.{_≡_};
+ghost use Prim.Native.Nat.{_<_};
 ghost use lib.ListN.{length, replicate};
 ghost use Rattle.parity.specs.Matrix.{lookups};
 ghost use Rattle.parity.specs.Questions.{Taken};
@@ -29,10 +31,11 @@ fn run_open(
     totals: &mut [u8],
     matches: &mut [u8],
 ) -> Cycle
-    requires { ⌜ Taken shape × (cycle ≡ cycleAt shape 0) ⌝ }
+    requires { ⌜ Taken shape × (cycle .skip < shape .digits) × (cycle ≡ cycleAt (cycle .skip) shape 0) ⌝ }
     requires { ⌜ Sized shape (withAll (now cells) (now counters) (now flags) (now totals) noMemory) × (length (now matches) ≡ shape .rows) ⌝ }
     ensures { λ r. ⌜ ((mem : Memory) → let st = stateOf (withAll (was cells) (was counters) (was flags) (was totals) mem) cycle in
-        giving (accepted 0) (lastMatches shape (st .memory)) (runFrom shape st (replicate (lookups shape) (step (was matches))))
+        giving (accepted 0) (lastMatches (cycle .skip) shape (st .memory))
+        (runFrom shape st (replicate (lookups (cycle .skip) shape) (step (was matches))))
         ≡ changing (doneWith r) (left matches) (withAll (was cells) (left counters) (left flags) (left totals) mem)) ⌝ }
 {
     let mut now = cycle;
@@ -47,16 +50,18 @@ fn run_open(
 pub fn run_cycle(
     cycle: Cycle,
     shape: Shape,
+    skip: usize,
     cells: &[u8],
     counters: &mut [u8],
     flags: &mut [u8],
     totals: &mut [u8],
     matches: &mut [u8],
 ) -> Changed
-    ensures { λ r. ⌜ ((mem : Memory) → cycleCall shape (stateOf (withAll (was cells) (was counters) (was flags) (was totals) mem) cycle) (was matches)
+    ensures { λ r. ⌜ ((mem : Memory) → cycleCall shape (stateOf (withAll (was cells) (was counters) (was flags) (was totals) mem) cycle) skip (was matches)
         ≡ changing r (left matches) (withAll (was cells) (left counters) (left flags) (left totals) mem)) ⌝ }
 {
     match check_matches(
+        check_skip(shape, skip),
         shape,
         cells.len(),
         counters.len(),
@@ -66,7 +71,7 @@ pub fn run_cycle(
     ) {
         Checked::Refused(number) => refused(cycle, number),
         Checked::Taken(_) => {
-            let started = cycle.start(shape, counters, flags, totals);
+            let started = cycle.start(shape, skip, counters, flags, totals);
             done(run_open(
                 started.cycle,
                 shape,

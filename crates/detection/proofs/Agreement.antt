@@ -42,26 +42,29 @@ pub record RowsAgree (s : Shape) (cells : List ℕ) (written standing : List (Li
   pub stands : All (Cells s) standing
   pub laid : cells ≡ flat standing
 
--- the record stands at the count of c taken steps, and so do the lines where no cell has drifted since the start
-pub record Running (s : Shape) (st : State) (c : ℕ) (mark : Bool) : Type 0 where
-  pub stands : Stands s c (st .cycle)
-  pub lines : mark ≡ false → Lines s st c
+-- the cycle does not skip all digits; the record stands at the count of c taken steps, and so do the lines where no cell has drifted since the
+-- start
+pub record Running (s : Shape) (st : State) (z c : ℕ) (mark : Bool) : Type 0 where
+  pub partial : z < s .digits
+  pub stands : Stands z s c (st .cycle)
+  pub lines : mark ≡ false → Lines z s st c
 
--- the record is idle with count 0
-pub record Resting (cycle : Cycle) : Type 0 where
+-- the record is idle with count 0, and skips nothing
+pub record Resting (cycle : Cycle) (z c : ℕ) : Type 0 where
   pub phase : cycle .phase ≡ Idle
-  pub count : cycle .count ≡ 0
+  pub count : (cycle .count ≡ 0) × (c ≡ 0)
+  pub skip : (cycle .skip ≡ 0) × (z ≡ 0)
 
 -- what the log's cycle says of the state
-abbrev pub InCourse : Shape → State → Course → ℕ → Bool → Type 0
-InCourse s st none c mark = Resting (st .cycle) × (c ≡ 0)
-InCourse s st open-cycle c mark = Running s st c mark × (c < lookups s)
-InCourse s st ended c mark = Running s st c mark × (c ≡ lookups s)
+abbrev pub InCourse : Shape → State → Course → ℕ → ℕ → Bool → Type 0
+InCourse s st none z c mark = Resting (st .cycle) z c
+InCourse s st open-cycle z c mark = Running s st z c mark × (c < lookups z s)
+InCourse s st ended z c mark = Running s st z c mark × (c ≡ lookups z s)
 
 pub record Agrees (s : Shape) (st : State) (l : Log) : Type 0 where
   pub rows : RowsAgree s (st .memory .cells) (l .written) (l .standing)
   pub rest : RowsSized s (st .memory)
-  pub course : InCourse s st (l .course) (l .count) (l .mark)
+  pub course : InCourse s st (l .course) (l .skip) (l .count) (l .mark)
 
 module _ (s : Shape) (cells : List ℕ) (written standing : List (List ℕ)) (r : RowsAgree s cells written standing) where
   pub wide : Wide (columns s) standing
@@ -106,5 +109,5 @@ agrees-fresh s t =
             laid = sym (flat-replicate (s .rows) (columns s) 0);
           };
       rest = fresh-sized s .rows;
-      course = (record { phase = refl; count = refl }, refl);
+      course = record { phase = refl; count = (refl, refl); skip = (refl, refl) };
     }

@@ -14,41 +14,46 @@ use Rattle.cycle.specs.Calls.{State, zeroRows, fresh, started, steppedMemory, s
 use Rattle.array_memory.specs.Memory.{Sized}
 use Rattle.cycle.specs.Run.{start, step, after, runFrom, run}
 use Rattle.detection.specs.Claims.{stepsWith, Buffers, CourseClaim, QuestionNineClaim}
-use Rattle.cycle.proofs.CycleRecord.{record-count, record-open, record-complete, next-open, next-record}
-use Rattle.cycle.proofs.Steps.{fresh-sized, Lines, started-lines, started-sized, start-state, stepped-lines, stepped-cycle, stepped-sized, step-state}
+use Rattle.cycle.proofs.CycleRecord.{record-count, record-skip, record-open, record-complete, next-open, next-record}
+use Rattle.cycle.proofs.Places.{next-place}
+use Rattle.cycle.proofs.Steps.{fresh-sized, Lines, started-lines, started-sized, start-done, stepped-lines, stepped-cycle, stepped-sized, step-state}
 
 -- a start and c taken steps have been made on these cells
-pub record Underway (s : Shape) (held : List ℕ) (c : ℕ) (st : State) : Type 0 where
+pub record Underway (z : ℕ) (s : Shape) (held : List ℕ) (c : ℕ) (st : State) : Type 0 where
   pub still : st .memory .cells ≡ held
   pub sized : Sized s (st .memory)
-  pub cycle : st .cycle ≡ cycleAt s c
-  pub lines : Lines s st c
+  pub cycle : st .cycle ≡ cycleAt z s c
+  pub lines : Lines z s st c
 
-count : (s : Shape) (c : ℕ) (st : State) {cells : List ℕ} → Underway s cells c st → st .cycle .count ≡ c
-count s c st u = ap (λ r. r .count) (u .cycle) ∙ record-count s c
+module _ (z : ℕ) (s : Shape) (c : ℕ) (st : State) {cells : List ℕ} (u : Underway z s cells c st) where
+  count : st .cycle .count ≡ c
+  count = ap (λ r. r .count) (u .cycle) ∙ record-count z s c
 
-module _ (s : Shape) (t : Taken s) where
-  underway-start : (st : State) → Sized s (st .memory) → Underway s (st .memory .cells) 0 (after s st start)
+  skip : st .cycle .skip ≡ z
+  skip = ap (λ r. r .skip) (u .cycle) ∙ record-skip z s c
+
+module _ (z : ℕ) (s : Shape) (t : Taken s) (lt : z < s .digits) where
+  underway-start : (st : State) → Sized s (st .memory) → Underway z s (st .memory .cells) 0 (after s st (start z))
   unfolding started zeroRows
-  underway-start st z =
-      rw (start-state s st z t) (record { still = refl; sized = started-sized s st z; cycle = refl; lines = started-lines s st })
+  underway-start st lent =
+      rw (start-done s st lent t z lt) (record { still = refl; sized = started-sized s st lent z; cycle = refl; lines = started-lines s st z })
 
   underway-step :
-      (cells : List ℕ) (c : ℕ) (st : State) (matches : List ℕ) → length matches ≡ s .rows → c < lookups s → Underway s cells c st
-      → Underway s cells (suc c) (after s st (step matches))
+      (cells : List ℕ) (c : ℕ) (st : State) (matches : List ℕ) → length matches ≡ s .rows → c < lookups z s → Underway z s cells c st
+      → Underway z s cells (suc c) (after s st (step matches))
   unfolding stepped steppedMemory
   underway-step cells c st matches l h u =
-      rw (step-state s st (u .sized) t matches, eq-eqb _ _ l, ap (isNext s) (u .cycle) ∙ next-open s t c h)
+      rw (step-state s st (u .sized) t matches, eq-eqb _ _ l, ap (isNext s) (u .cycle) ∙ next-open z s t c h)
       (record {
         still = u .still;
         sized = stepped-sized s st (u .sized);
-        cycle = stepped-cycle s st c (count s c st u);
-        lines = stepped-lines s st t c h (count s c st u) (u .lines);
+        cycle = stepped-cycle s st z c (skip z s c st u) (count z s c st u);
+        lines = stepped-lines s st t z c h (skip z s c st u) (count z s c st u) (u .lines);
       })
 
   underway-steps :
-      (cells : List ℕ) (buffers : List (List ℕ)) (c : ℕ) (st : State) → Buffers s buffers → c + length buffers ≤ lookups s → Underway s cells c st
-      → Underway s cells (c + length buffers) (runFrom s st (stepsWith buffers))
+      (cells : List ℕ) (buffers : List (List ℕ)) (c : ℕ) (st : State) → Buffers s buffers → c + length buffers ≤ lookups z s → Underway z s cells c st
+      → Underway z s cells (c + length buffers) (runFrom s st (stepsWith buffers))
   underway-steps cells [] c st sized h u = rw add-zero u
   underway-steps cells (matches ∷ buffers) c st sized h u =
       let next : c + suc (length buffers) ≡ suc c + length buffers = omega arith in
@@ -57,17 +62,17 @@ module _ (s : Shape) (t : Taken s) where
       (underway-step cells c st matches (sized .0) (omega arith) u))
 
   pub underway :
-      (st : State) → Sized s (st .memory) → (buffers : List (List ℕ)) → Buffers s buffers → length buffers ≤ lookups s
-      → Underway s (st .memory .cells) (length buffers) (runFrom s st (start ∷ stepsWith buffers))
-  underway st z buffers sized h =
-      rw zero-add at (underway-steps (st .memory .cells) buffers 0 (after s st start) sized (omega arith) (underway-start st z))
+      (st : State) → Sized s (st .memory) → (buffers : List (List ℕ)) → Buffers s buffers → length buffers ≤ lookups z s
+      → Underway z s (st .memory .cells) (length buffers) (runFrom s st (start z ∷ stepsWith buffers))
+  underway st lent buffers sized h =
+      rw zero-add at (underway-steps (st .memory .cells) buffers 0 (after s st (start z)) sized (omega arith) (underway-start st lent))
 
 pub courseClaim : CourseClaim
-courseClaim s t st z buffers sized h = (
-  underway s t st z buffers sized h .cycle,
-  record-count s (length buffers),
-  λ lt. ap (λ r. r .phase) (record-open s t (length buffers) lt),
-  λ e. ap (λ r. r .phase) (record-complete s t (length buffers) (le-of-eq (sym e))),
+courseClaim z s t lt st lent buffers sized h = (
+  underway z s t lt st lent buffers sized h .cycle,
+  record-count z s (length buffers),
+  λ below. ap (λ r. r .phase) (record-open z s t (length buffers) below),
+  λ e. ap (λ r. r .phase) (record-complete z s t (length buffers) (le-of-eq (sym e))),
 )
 
 -- c buffers of zeros
@@ -83,12 +88,15 @@ questionNineClaim s t cycle = (
       let buffers : List (List ℕ) = replicate (cycle .count) (replicate (s .rows) 0) in
       let sized : Buffers s buffers = zero-buffers s (cycle .count) in
       let made : length buffers ≡ cycle .count = length-replicate (cycle .count) _ in
-      let h : length buffers < lookups s = omega (arith, next .0) in
-      (buffers, sized, h, next .1 ∙ ap (cycleAt s) (sym made) ∙ sym (left buffers sized h)),
-  λ (buffers, sized, h, e). ap (isNext s) (e ∙ left buffers sized h) ∙ next-open s t (length buffers) h,
+      let z : ℕ = cycle .skip in
+      let place = next-place s t cycle e .0 in
+      let lt : z < s .digits = omega (arith, place .unskipped, place .digit) in
+      let h : length buffers < lookups z s = omega (arith, next .0) in
+      (z, lt, buffers, sized, h, next .1 ∙ ap (cycleAt z s) (sym made) ∙ sym (left z lt buffers sized h)),
+  λ (z, lt, buffers, sized, h, e). ap (isNext s) (e ∙ left z lt buffers sized h) ∙ next-open z s t (length buffers) h,
 )
   where
     left :
-        (buffers : List (List ℕ)) → Buffers s buffers → length buffers < lookups s
-        → runFrom s (fresh s) (start ∷ stepsWith buffers) .cycle ≡ cycleAt s (length buffers)
-    left buffers sized h = underway s t (fresh s) (fresh-sized s) buffers sized (omega arith) .cycle
+        (z : ℕ) → z < s .digits → (buffers : List (List ℕ)) → Buffers s buffers → length buffers < lookups z s
+        → runFrom s (fresh s) (start z ∷ stepsWith buffers) .cycle ≡ cycleAt z s (length buffers)
+    left z lt buffers sized h = underway z s t lt (fresh s) (fresh-sized s) buffers sized (omega arith) .cycle

@@ -1,23 +1,27 @@
--- Demand 3: after every list of calls the state is as the log says, and the flags at the end of a cycle without drift are right. Assumes nothing.
+-- After every list of calls the state is as the log says, and the flags at the end of a cycle without drift are right: seen above the digits that
+-- it skips, and so demand 3's own sentence and Card 2's. Assumes nothing.
 use mathlib.Core.Path.{_≡_, refl, sym, ap, subst, _∙_}
+use mathlib.Core.Logic.{_↔_}
 use mathlib.Core.Bool.{Bool, true, false, cond}
 use mathlib.Core.List.{List, []}
-use Prim.Native.Nat.{ℕ, _≤_, _<_}
-use native.Mathlib.Nat.{le-of-eq}
+use Prim.Native.Nat.{ℕ, _-_, _*_, _/_, _≤_, _<_}
+use native.Mathlib.Nat.{le-of-eq, le-trans, div-one, pow-zero}
 use native.Mathlib.Omega.{arith}
 use lib.ListN.{length, getD}
 use Rattle.parity.specs.Lists.{differences}
-use Rattle.parity.specs.Matrix.{lookups}
+use Rattle.parity.specs.Shape.{levels}
+use Rattle.parity.specs.Matrix.{matrixOnes, lookups}
 use Rattle.parity.specs.Codeword.{Codeword, isCodeword}
 use Rattle.parity.specs.Questions.{Taken}
 use Rattle.parity.specs.declared.Shape.{Shape}
-use Rattle.parity.proofs.CodewordTest.{codeword-test, codeword-passes}
-use Rattle.parity.proofs.Distance.{distanceClaim}
+use Rattle.schedule.specs.Coarse.{floors, BalancedFrom, isBalancedFrom}
+use Rattle.schedule.proofs.Balanced.{balancedClaim, sound-test}
+use Rattle.schedule.proofs.Coarse.{floors-nearer, floors-zero, floors-equal, floors-balanced}
 use Rattle.cycle.specs.Calls.{State}
 use Rattle.cycle.specs.declared.Cycle.{Cycle}
 use Rattle.cycle.specs.Run.{Call, run}
 use Rattle.detection.specs.Log.{Course, none, open-cycle, ended, Log, log}
-use Rattle.detection.specs.Claims.{phaseOf, RightFlag, DetectionClaim, LevelsClaim}
+use Rattle.detection.specs.Claims.{phaseOf, RightFlag, wroteAt, standsAt, DetectionClaim, DemandClaim, CoarseClaim, LevelsClaim}
 use Rattle.cycle.proofs.CycleRecord.{record-open, record-complete}
 use Rattle.cycle.proofs.Steps.{lines-ended}
 use Rattle.detection.proofs.Agreement.{Cells, InCourse, Agrees, cells-below, written-row, standing-row, row-stands, agrees-fresh}
@@ -46,72 +50,128 @@ unfolding number
 open≢ended e = let never : _≡_ {A = ℕ} 1 2 = ap number e in absurd (omega arith)
 
 module _ (s : Shape) (t : Taken s) where
-  -- the flag that says whether the row as it stands is sound is right, where it differs in at most τ cells from a sound row
+  -- the flag that says whether the row as it stands is balanced from z on is right, where its floors differ in at most τ cells from a sound row's
   right-flag :
-      (written standing : List ℕ) (flag : ℕ) → Codeword s written → differences written standing ≤ s .errors
-      → flag ≡ cond (isCodeword s standing) 0 1 → RightFlag written standing flag
-  right-flag written standing flag code near e =
+      (z : ℕ) → z < s .digits → (written standing : List ℕ) (flag : ℕ) → Codeword s written → Cells s standing
+      → differences (floors z s written) (floors z s standing) ≤ s .errors → flag ≡ cond (isBalancedFrom z s standing) 0 1
+      → RightFlag (floors z s written) (floors z s standing) flag
+  right-flag z lt written standing flag code c near e =
       record {
-        unchanged = λ same. e ∙ ap (λ b. cond b 0 1) (ap (isCodeword s) (sym same) ∙ codeword-passes s written code);
-        changed = λ apart. e ∙ go apart (isCodeword s standing) refl;
+        unchanged = λ same. e ∙ ap (λ b. cond b 0 1) (test .1 (floors-balanced z s t lt written standing same (λ ℓ d h low k. code .balanced ℓ d h k)));
+        changed = λ apart. e ∙ go apart (isBalancedFrom z s standing) refl;
       }
     where
-      go : (written ≡ standing → ⊥) → (b : Bool) → isCodeword s standing ≡ b → _≡_ {A = ℕ} (cond b 0 1) 1
-      go apart true p = absurd (apart (distanceClaim s t written standing code (codeword-test s standing p) near))
+      test : (isBalancedFrom z s standing ≡ true) ↔ BalancedFrom z s standing
+      test = balancedClaim z s standing
+
+      go : (floors z s written ≡ floors z s standing → ⊥) → (b : Bool) → isBalancedFrom z s standing ≡ b → _≡_ {A = ℕ} (cond b 0 1) 1
+      go apart true p = absurd (apart (floors-equal z s t lt written standing code (c .sized) (c .below) (test .0 p) near))
       go apart false p = refl
 
-  -- what the log's cycle says of the record: its phase, its count, and where that is
-  pub record Counted (cycle : Cycle) (k : Course) (c : ℕ) : Type 0 where
+  -- what the log's cycle says of the record: its phase, its count, the digits that it skips, and where the count is
+  pub record Counted (cycle : Cycle) (k : Course) (z c : ℕ) : Type 0 where
     pub phase : cycle .phase ≡ phaseOf k
     pub count : cycle .count ≡ c
-    pub open-below : k ≡ open-cycle → c < lookups s
-    pub ended-at : k ≡ ended → c ≡ lookups s
+    pub skip : cycle .skip ≡ z
+    pub open-below : k ≡ open-cycle → c < lookups z s
+    pub ended-at : k ≡ ended → c ≡ lookups z s
 
-  counted : (st : State) (k : Course) (c : ℕ) (mark : Bool) → InCourse s st k c mark → Counted (st .cycle) k c
-  counted st none c mark f =
-      record { phase = f .0 .phase; count = f .0 .count ∙ sym (f .1); open-below = λ e. absurd (none≢open e); ended-at = λ e. absurd (none≢ended e) }
-  counted st open-cycle c mark f =
+  counted : (st : State) (k : Course) (z c : ℕ) (mark : Bool) → InCourse s st k z c mark → Counted (st .cycle) k z c
+  counted st none z c mark f =
       record {
-        phase = f .0 .stands .phase ∙ ap (λ r. r .phase) (record-open s t c (f .1));
+        phase = f .phase;
+        count = f .count .0 ∙ sym (f .count .1);
+        skip = f .skip .0 ∙ sym (f .skip .1);
+        open-below = λ e. absurd (none≢open e);
+        ended-at = λ e. absurd (none≢ended e);
+      }
+  counted st open-cycle z c mark f =
+      record {
+        phase = f .0 .stands .phase ∙ ap (λ r. r .phase) (record-open z s t c (f .1));
         count = f .0 .stands .count;
+        skip = f .0 .stands .skip;
         open-below = λ e. f .1;
         ended-at = λ e. absurd (open≢ended e);
       }
-  counted st ended c mark f =
+  counted st ended z c mark f =
       record {
-        phase = f .0 .stands .phase ∙ ap (λ r. r .phase) (record-complete s t c (le-of-eq (sym (f .1))));
+        phase = f .0 .stands .phase ∙ ap (λ r. r .phase) (record-complete z s t c (le-of-eq (sym (f .1))));
         count = f .0 .stands .count;
+        skip = f .0 .stands .skip;
         open-below = λ e. absurd (open≢ended (sym e));
         ended-at = λ e. f .1;
       }
 
-  -- at the end of a cycle without drift the flags say which rows are not sound
-  pub ended-flag :
-      (st : State) (l : Log) → Agrees s st l → l .course ≡ ended → l .mark ≡ false → (i : ℕ) → i < s .rows
-      → getD (st .memory .flags) i 0 ≡ cond (isCodeword s (getD (l .standing) i [])) 0 1
-  ended-flag st l a e off i h =
-      let f : InCourse s st ended (l .count) (l .mark) = subst (λ k. InCourse s st k (l .count) (l .mark)) e (a .course) in
-      let row = row-stands s _ _ _ (a .rows) i h in
-      let c : Cells s (getD (l .standing) i []) = standing-row s _ _ _ (a .rows) i h in
-      lines-ended s st t (rw (f .1) at (f .0 .lines off)) i h (ap length row ∙ c .sized) (rw row (c .below))
-      ∙ ap (λ r. cond (isCodeword s r) 0 1) row
+  module _ (st : State) (l : Log) (a : Agrees s st l) (e : l .course ≡ ended) where
+    course-ended : InCourse s st ended (l .skip) (l .count) (l .mark)
+    course-ended = subst (λ k. InCourse s st k (l .skip) (l .count) (l .mark)) e (a .course)
+
+    -- at the end of a cycle without drift the flags say which rows have a digit sum from z on that is not 0 ..
+    pub ended-flag :
+        l .mark ≡ false → (i : ℕ) → i < s .rows → getD (st .memory .flags) i 0 ≡ cond (isBalancedFrom (l .skip) s (getD (l .standing) i [])) 0 1
+    ended-flag off i h =
+        let f = course-ended in
+        let row = row-stands s _ _ _ (a .rows) i h in
+        let c : Cells s (getD (l .standing) i []) = standing-row s _ _ _ (a .rows) i h in
+        lines-ended s st t (l .skip) (rw (f .1) at (f .0 .lines off)) i h (ap length row ∙ c .sized) (rw row (c .below))
+        ∙ ap (λ r. cond (isBalancedFrom (l .skip) s r) 0 1) row
+
+    -- .. and where no digit was skipped, which rows are not sound
+    pub ended-sound :
+        l .skip ≡ 0 → l .mark ≡ false → (i : ℕ) → i < s .rows → getD (st .memory .flags) i 0 ≡ cond (isCodeword s (getD (l .standing) i [])) 0 1
+    ended-sound fine off i h =
+        let standing : List ℕ = getD (l .standing) i [] in
+        let c : Cells s standing = standing-row s _ _ _ (a .rows) i h in
+        ended-flag off i h
+        ∙ ap (λ z. cond (isBalancedFrom z s standing) 0 1) fine
+        ∙ ap (λ b. cond b 0 1) (sound-test s standing (c .sized) (c .below))
 
 pub detectionClaim : DetectionClaim
 detectionClaim s t calls =
     let st : State = run s calls in
     let l : Log = log s calls in
     let a : Agrees s st l = agrees s t calls in
-    let k = counted s t st (l .course) (l .count) (l .mark) (a .course) in
+    let k = counted s t st (l .course) (l .skip) (l .count) (l .mark) (a .course) in
     record {
       cells = a .rows .laid;
       phase = k .phase;
       count = k .count;
+      skip = k .skip;
       open-below = λ e. rw (k .count) (k .open-below e);
       ended-at = λ e. k .count ∙ k .ended-at e;
       verdict =
           λ is off i h near.
-          right-flag s t (getD (l .written) i []) (getD (l .standing) i []) (getD (st .memory .flags) i 0)
-          (written-row s _ _ _ (a .rows) i h) near (ended-flag s t st l a is off i h);
+          right-flag s t (l .skip) (course-ended s t st l a is .0 .partial) (getD (l .written) i []) (getD (l .standing) i []) (getD (st .memory .flags) i 0)
+          (written-row s _ _ _ (a .rows) i h) (standing-row s _ _ _ (a .rows) i h) near (ended-flag s t st l a is off i h);
+    }
+
+-- where no digit is skipped the cycle has (q − 1) × W lookups
+whole-length : (s : Shape) → lookups 0 s ≡ (levels s - 1) * matrixOnes s
+unfolding lookups
+whole-length s = ap (λ x. (x - 1) * matrixOnes s) (ap (λ p. levels s / p) (pow-zero (s .radix)) ∙ div-one (levels s))
+
+-- .. and sees all of a row
+whole-rows : (z : ℕ) → z ≡ 0 → (s : Shape) (x y : List ℕ) (flag : ℕ) → RightFlag (floors z s x) (floors z s y) flag → RightFlag x y flag
+whole-rows z e s x y flag r =
+    let all : (row : List ℕ) → floors z s row ≡ row = λ row. ap (λ z. floors z s row) e ∙ floors-zero s row in
+    record {
+      unchanged = λ same. r .unchanged (all x ∙ same ∙ sym (all y));
+      changed = λ apart. r .changed (λ same. apart (sym (all x) ∙ same ∙ all y));
+    }
+
+pub coarseClaim : CoarseClaim
+coarseClaim s t calls is off i h near =
+    let z = log s calls .skip in
+    detectionClaim s t calls .verdict is off i h (le-trans (floors-nearer z s (wroteAt s calls i) (standsAt s calls i)) near)
+
+pub demandClaim : DemandClaim
+demandClaim s t calls fine =
+    let d = detectionClaim s t calls in
+    let length = ap (λ z. lookups z s) fine ∙ whole-length s in
+    record {
+      open-below = λ e. rw length at (d .open-below e);
+      ended-at = λ e. d .ended-at e ∙ length;
+      verdict = λ is off i h near. whole-rows _ fine s _ _ _ (coarseClaim s t calls is off i h near);
     }
 
 pub levelsClaim : LevelsClaim

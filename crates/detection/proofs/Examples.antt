@@ -17,7 +17,7 @@ use Rattle.cycle.specs.Calls.{zeroRows, cleared, fresh, programCall, started, s
 use Rattle.cycle.specs.Calls.{totalledBlocks, steppedMemory, stepped, stepCall}
 use Rattle.cycle.specs.Run.{run}
 use Rattle.detection.specs.Log.{blank, log}
-use Rattle.detection.specs.Examples.{ExamplesClaim, examples}
+use Rattle.detection.specs.Examples.{ExamplesClaim, examples, CoarseExamplesClaim, coarseCycle}
 
 pub examplesClaim : ExamplesClaim
 unfolding
@@ -27,3 +27,12 @@ unfolding
     number checkDigit checkCell encode weight ofWeight columnOrder eligible ruleColumns checkColumns matrix support matrixOnes lookups
     digit levels largest limit redundancy checks columns
 examplesClaim = refl
+
+pub coarseExamplesClaim : CoarseExamplesClaim
+unfolding
+    coarseCycle run log blank calling zeroRows cleared fresh programCall driftCall startCall stepCall started stepped steppedMemory drifted programmed
+    countedRows flaggedRows totalledBlocks resetRows stepMatches entryAt cycleAt isNext cellCount blocksOf blockAt countFlagged
+    blockTotals rowAt withRow rowMatch matchBytes counted flagged reset factors ofDigit ofCheck schedule unitVector testVector matchByte
+    number checkDigit checkCell encode weight ofWeight columnOrder eligible ruleColumns checkColumns matrix support matrixOnes lookups
+    digit levels largest limit redundancy checks columns
+coarseExamplesClaim = refl

@@ -6,9 +6,9 @@ use mathlib.Core.List.{List, []}
 use Prim.Native.Nat.{ℕ, zero, suc, _+_, _*_, _<_}
 use native.Mathlib.Nat.{le-of-eq}
 use native.Mathlib.Omega.{arith}
-use lib.Dec.{eqb}
+use lib.Dec.{eqb, ltb}
 use lib.ListN.{length, getD, set, length-set}
-use borrow.Author.Tests.{eqb-true, eqb-false}
+use borrow.Author.Tests.{eqb-true, eqb-false, ltb-true}
 use Rattle.parity.specs.Shape.{levels, columns}
 use Rattle.parity.specs.Matrix.{lookups}
 use Rattle.parity.specs.Codeword.{Codeword, encode}
@@ -30,7 +30,7 @@ use Rattle.cycle.proofs.Asked.{clear-asked, cells-asked}
 use Rattle.cycle.proofs.CycleRecord.{lookups-some, stands-at, stands-next, next-idle, next-open, next-complete}
 use Rattle.cycle.proofs.Runs.{run-keeps}
 use Rattle.cycle.proofs.Steps.{started-lines, started-sized, start-state, stepped-lines, stepped-cycle, stepped-sized, step-state}
-use Rattle.detection.specs.Log.{Course, none, open-cycle, ended, Log, logProgram, logDrift, logStep, whileOpen, logCall, logFrom}
+use Rattle.detection.specs.Log.{Course, none, open-cycle, ended, Log, logProgram, logDrift, logStart, logStep, whileOpen, logCall, logFrom}
 use Rattle.detection.proofs.Elements.{all-set, at-set}
 use Rattle.detection.proofs.Rows.{flat-with, flat-set}
 use Rattle.detection.proofs.Agreement.{Cells, codeword-cells, RowsAgree, Running, InCourse, Agrees, wide, standing-row, sized, agrees-fresh}
@@ -74,27 +74,37 @@ module _ (s : Shape) (cells : List ℕ) (written standing : List (List ℕ)) (r 
 -- ---- the calls
 
 -- a cell has drifted, so nothing is said of the lines
+blurred : (s : Shape) (st : State) (mem : Memory) (z c : ℕ) (mark : Bool) → Running s st z c mark → Running s (stateOf mem (st .cycle)) z c true
+blurred s st mem z c mark r = record { partial = r .partial; stands = r .stands; lines = λ off. absurd (true≢false off) }
+
 marked :
-    (s : Shape) (st : State) (mem : Memory) (k : Course) (c : ℕ) (mark : Bool) → InCourse s st k c mark → InCourse s (stateOf mem (st .cycle)) k c true
-marked s st mem none c mark f = f
-marked s st mem open-cycle c mark f = (record { stands = f .0 .stands; lines = λ off. absurd (true≢false off) }, f .1)
-marked s st mem ended c mark f = (record { stands = f .0 .stands; lines = λ off. absurd (true≢false off) }, f .1)
+    (s : Shape) (st : State) (mem : Memory) (k : Course) (z c : ℕ) (mark : Bool) → InCourse s st k z c mark
+    → InCourse s (stateOf mem (st .cycle)) k z c true
+marked s st mem none z c mark f = f
+marked s st mem open-cycle z c mark f = (blurred s st mem z c mark (f .0), f .1)
+marked s st mem ended z c mark f = (blurred s st mem z c mark (f .0), f .1)
 
 module _ (s : Shape) (t : Taken s) (st : State) (l : Log) (a : Agrees s st l) where
   agrees-clear : Agrees s (after s st clear) (logCall s l clear)
   unfolding clearCall fresh cleared zeroRows
   agrees-clear = rw (after, call-done _ [] st _ (clear-asked s t st (sized s st l a))) (agrees-fresh s t)
 
-  agrees-start : Agrees s (after s st start) (logCall s l start)
+  agrees-started : (z : ℕ) → z < s .digits → Agrees s (started s st z) (logStart z l)
   unfolding started zeroRows
-  agrees-start =
-      let z : Sized s (started s st .memory) = started-sized s st (sized s st l a) in
-      rw (start-state s st (sized s st l a) t)
-      (record {
+  agrees-started z h =
+      let lent : Sized s (started s st z .memory) = started-sized s st (sized s st l a) z in
+      record {
         rows = a .rows;
-        rest = z .rows;
-        course = (record { stands = stands-at s 0 _ refl; lines = λ off. started-lines s st }, lookups-some s t);
-      })
+        rest = lent .rows;
+        course = (record { partial = h; stands = stands-at z s 0 _ refl; lines = λ off. started-lines s st z }, lookups-some z s t h);
+      }
+
+  agrees-start : (z : ℕ) → Agrees s (after s st (start z)) (logCall s l (start z))
+  agrees-start z = rw (start-state s st (sized s st l a) t z) (go (ltb z (s .digits)) refl)
+    where
+      go : (b : Bool) → ltb z (s .digits) ≡ b → Agrees s (cond b (started s st z) st) (ifTaken (cond b 0 15) (logStart z l) l)
+      go true e = agrees-started z (ltb-true z (s .digits) e)
+      go false e = a
 
   agrees-program : (row : ℕ) (given : List ℕ) → Agrees s (after s st (program row given)) (logCall s l (program row given))
   unfolding programCall calling programmed
@@ -111,7 +121,7 @@ module _ (s : Shape) (t : Taken s) (st : State) (l : Log) (a : Agrees s st l) wh
           record {
             rows = rows-programmed s _ _ _ (a .rows) t row given (program-reads s row given e);
             rest = rows-kept s (st .memory) (a .rest) _;
-            course = (record { phase = refl; count = refl }, refl);
+            course = record { phase = refl; count = (refl, refl); skip = (refl, refl) };
           }
       go (suc n) e = a
 
@@ -132,7 +142,7 @@ module _ (s : Shape) (t : Taken s) (st : State) (l : Log) (a : Agrees s st l) wh
           record {
             rows = rows-drifted s _ _ _ (a .rows) row column level (drift-reads s row column level e);
             rest = rows-kept s (st .memory) (a .rest) _;
-            course = marked s st _ (l .course) (l .count) (l .mark) (a .course);
+            course = marked s st _ (l .course) (l .skip) (l .count) (l .mark) (a .course);
           }
       go (suc n) e = a
 
@@ -152,34 +162,37 @@ module _ (s : Shape) (t : Taken s) (st : State) (l : Log) (a : Agrees s st l) wh
       go zero = a
       go (suc n) = a
 
-  agrees-stepped : Running s st (l .count) (l .mark) → l .count < lookups s → Agrees s (stepped s st) (logStep s l)
+  agrees-stepped : Running s st (l .skip) (l .count) (l .mark) → l .count < lookups (l .skip) s → Agrees s (stepped s st) (logStep s l)
   unfolding stepped steppedMemory
   agrees-stepped r h =
       let z : Sized s (stepped s st .memory) = stepped-sized s st (sized s st l a) in
-      record { rows = a .rows; rest = z .rows; course = go (eqb (suc (l .count)) (lookups s)) refl }
+      record { rows = a .rows; rest = z .rows; course = go (eqb (suc (l .count)) (lookups (l .skip) s)) refl }
     where
-      next : Running s (stepped s st) (suc (l .count)) (l .mark)
+      next : Running s (stepped s st) (l .skip) (suc (l .count)) (l .mark)
       next =
           record {
-            stands = stands-at s (suc (l .count)) _ (stepped-cycle s st (l .count) (r .stands .count));
-            lines = λ off. stepped-lines s st t (l .count) h (r .stands .count) (r .lines off);
+            partial = r .partial;
+            stands = stands-at (l .skip) s (suc (l .count)) _ (stepped-cycle s st (l .skip) (l .count) (r .stands .skip) (r .stands .count));
+            lines = λ off. stepped-lines s st t (l .skip) (l .count) h (r .stands .skip) (r .stands .count) (r .lines off);
           }
 
-      go : (b : Bool) → eqb (suc (l .count)) (lookups s) ≡ b → InCourse s (stepped s st) (cond b ended open-cycle) (suc (l .count)) (l .mark)
+      go :
+          (b : Bool) → eqb (suc (l .count)) (lookups (l .skip) s) ≡ b
+          → InCourse s (stepped s st) (cond b ended open-cycle) (l .skip) (suc (l .count)) (l .mark)
       go true e = (next, eqb-true _ _ e)
       go false e =
-          let apart : suc (l .count) ≢ lookups s = eqb-false _ _ e in
+          let apart : suc (l .count) ≢ lookups (l .skip) s = eqb-false _ _ e in
           (next, omega arith)
 
   -- the record has a lookup to come exactly where the log's cycle is open
   while-open :
-      (k : Course) → InCourse s st k (l .count) (l .mark)
+      (k : Course) → InCourse s st k (l .skip) (l .count) (l .mark)
       → Agrees s (cond (isNext s (st .cycle)) (stepped s st) st) (whileOpen k (logStep s l) l)
-  while-open none f = rw (next-idle s (st .cycle) (f .0 .phase)) a
+  while-open none f = rw (next-idle s (st .cycle) (f .phase)) a
   while-open open-cycle f =
-      rw (stands-next s (l .count) (st .cycle) (f .0 .stands) ∙ next-open s t (l .count) (f .1)) (agrees-stepped (f .0) (f .1))
+      rw (stands-next (l .skip) s (l .count) (st .cycle) (f .0 .stands) ∙ next-open (l .skip) s t (l .count) (f .1)) (agrees-stepped (f .0) (f .1))
   while-open ended f =
-      rw (stands-next s (l .count) (st .cycle) (f .0 .stands) ∙ next-complete s t (l .count) (le-of-eq (sym (f .1)))) a
+      rw (stands-next (l .skip) s (l .count) (st .cycle) (f .0 .stands) ∙ next-complete (l .skip) s t (l .count) (le-of-eq (sym (f .1)))) a
 
   agrees-step : (matches : List ℕ) → Agrees s (after s st (step matches)) (logCall s l (step matches))
   agrees-step matches = rw (step-state s st (sized s st l a) t matches) (go (eqb (length matches) (s .rows)))
@@ -192,7 +205,7 @@ module _ (s : Shape) (t : Taken s) (st : State) (l : Log) (a : Agrees s st l) wh
 
   agrees-call : (c : Call) → Agrees s (after s st c) (logCall s l c)
   agrees-call clear = agrees-clear
-  agrees-call start = agrees-start
+  agrees-call (start z) = agrees-start z
   agrees-call (program row given) = agrees-program row given
   agrees-call (drift row column level) = agrees-drift row column level
   agrees-call (lookup inputs matches) = agrees-lookup inputs matches

@@ -1,4 +1,4 @@
--- December's shutdown: after a cycle without drift, programming every flagged row again from what was last written restores every row within τ
+-- December's shutdown: after a cycle without drift that skips no digit, programming every flagged row again from what was last written restores every row within τ
 -- cells of it, and a whole cycle more flags no row. Assumes nothing.
 use mathlib.Core.Path.{_≡_, refl, sym, ap, _∙_}
 use mathlib.Core.Logic.{⊎-elim}
@@ -14,13 +14,15 @@ use borrow.Author.Tests.{eqb-true}
 use Rattle.parity.specs.Lists.{joined, differences}
 use Rattle.parity.specs.Shape.{columns}
 use Rattle.parity.specs.Matrix.{lookups}
-use Rattle.parity.specs.Codeword.{Codeword, isCodeword, encode}
+use Rattle.parity.specs.Codeword.{Codeword, encode}
 use Rattle.parity.specs.Questions.{Taken}
 use Rattle.parity.specs.declared.Shape.{Shape}
 use Rattle.parity.proofs.ListLaws.{tabulate-same, tabulate-constant}
-use Rattle.parity.proofs.CodewordTest.{codeword-test, codeword-passes}
+use Rattle.parity.proofs.CodewordTest.{codeword-test}
 use Rattle.parity.proofs.Encoding.{encodingClaim}
 use Rattle.parity.proofs.Distance.{distanceClaim}
+use Rattle.schedule.specs.Coarse.{isBalancedFrom}
+use Rattle.schedule.proofs.Balanced.{codeword-balanced}
 use Rattle.cycle.specs.Calls.{State, fresh}
 use Rattle.cycle.specs.Run.{Call, start, program, runFrom, run}
 use Rattle.detection.specs.Log.{ended, Log, blank, logCall, logFrom, log}
@@ -31,7 +33,7 @@ use Rattle.array_memory.proofs.Asked.{Programs, program-fits}
 use Rattle.detection.proofs.Still.{stillClaim}
 use Rattle.detection.proofs.Agreement.{Agrees, sized, cells-below, written-row, row-stands}
 use Rattle.detection.proofs.Keeping.{agrees-run}
-use Rattle.detection.proofs.Detection.{agrees, ended-flag}
+use Rattle.detection.proofs.Detection.{agrees, ended-sound}
 
 log-append : (s : Shape) (xs ys : List Call) (l : Log) → logFrom s l (xs ++ ys) ≡ logFrom s (logFrom s l xs) ys
 log-append s = followed-append (logCall s)
@@ -44,12 +46,12 @@ flag-zero false e = absurd (omega arith)
 -- where all rows as they stand are sound, a cycle flags none
 sound-cycle :
     (s : Shape) → Taken s → (st : State) (l : Log) → Agrees s st l → ((i : ℕ) → i < s .rows → Codeword s (getD (l .standing) i []))
-    → (buffers : List (List ℕ)) → Buffers s buffers → length buffers ≡ lookups s
-    → runFrom s st (start ∷ stepsWith buffers) .memory .flags ≡ replicate (s .rows) 0
-sound-cycle s t st l a sound buffers made whole =
-    stillClaim s t st (sized s st l a) (cells-below s _ _ _ (a .rows)) buffers made whole
+    → (z : ℕ) → z < s .digits → (buffers : List (List ℕ)) → Buffers s buffers → length buffers ≡ lookups z s
+    → runFrom s st (start z ∷ stepsWith buffers) .memory .flags ≡ replicate (s .rows) 0
+sound-cycle s t st l a sound z lt buffers made whole =
+    stillClaim z s t lt st (sized s st l a) (cells-below s _ _ _ (a .rows)) buffers made whole
     ∙ tabulate-same (s .rows) _ (λ i. 0)
-    (λ i h. ap (λ b. cond b 0 1) (ap (isCodeword s) (row-stands s _ _ _ (a .rows) i h) ∙ codeword-passes s _ (sound i h)))
+    (λ i h. ap (λ b. cond b 0 1) (ap (isBalancedFrom z s) (row-stands s _ _ _ (a .rows) i h) ∙ codeword-balanced z s _ (sound i h)))
     ∙ tabulate-constant (s .rows) 0
 
 module _ (s : Shape) (t : Taken s) (st : State) (l : Log) (a : Agrees s st l) where
@@ -76,13 +78,13 @@ module _ (s : Shape) (t : Taken s) (st : State) (l : Log) (a : Agrees s st l) wh
     again-same = sym (encodingClaim s t (wrote i) (wrote-sound .sized) .0 wrote-sound .0)
 
   module _
-      (e : l .course ≡ ended) (off : l .mark ≡ false)
+      (e : l .course ≡ ended) (fine : l .skip ≡ 0) (off : l .mark ≡ false)
       (near : (i : ℕ) → i < s .rows → differences (wrote i) (getD (l .standing) i []) ≤ s .errors) where
     -- a row that is not flagged is sound, and so it is the one that was written
     unflagged-same : (i : ℕ) → i < s .rows → getD (st .memory .flags) i 0 ≡ 0 → getD (l .standing) i [] ≡ wrote i
     unflagged-same i h zero-flag =
         let standing : List ℕ = getD (l .standing) i [] in
-        let sound : Codeword s standing = codeword-test s standing (flag-zero _ (sym (ended-flag s t st l a e off i h) ∙ zero-flag)) in
+        let sound : Codeword s standing = codeword-test s standing (flag-zero _ (sym (ended-sound s t st l a e fine off i h) ∙ zero-flag)) in
         sym (distanceClaim s t (wrote i) standing (wrote-sound i h) sound (near i h))
 
     -- the repair of the first n rows
@@ -119,8 +121,8 @@ module _ (s : Shape) (t : Taken s) (st : State) (l : Log) (a : Agrees s st l) wh
     restored-row i h = repaired (s .rows) (omega arith) i h (λ past. absurd (omega arith))
 
     quiet-cycle :
-        (buffers : List (List ℕ)) → Buffers s buffers → length buffers ≡ lookups s
-        → runFrom s (runFrom s st (part (s .rows))) (start ∷ stepsWith buffers) .memory .flags ≡ replicate (s .rows) 0
+        (z : ℕ) → z < s .digits → (buffers : List (List ℕ)) → Buffers s buffers → length buffers ≡ lookups z s
+        → runFrom s (runFrom s st (part (s .rows))) (start z ∷ stepsWith buffers) .memory .flags ≡ replicate (s .rows) 0
     quiet-cycle =
         let repairs : List Call = part (s .rows) in
         sound-cycle s t (runFrom s st repairs) (logFrom s l repairs) (agrees-run s t repairs st l a)
@@ -128,15 +130,15 @@ module _ (s : Shape) (t : Taken s) (st : State) (l : Log) (a : Agrees s st l) wh
 
 pub shutdownClaim : ShutdownClaim
 unfolding run log
-shutdownClaim s t calls is off near buffers made whole =
+shutdownClaim s t calls is fine off near z lt buffers made whole =
     let st : State = run s calls in
     let l : Log = log s calls in
     let a : Agrees s st l = agrees s t calls in
     let repairs : List Call = repair s (st .memory .flags) (l .written) in
-    let cycle : List Call = start ∷ stepsWith buffers in
+    let cycle : List Call = start z ∷ stepsWith buffers in
     record {
-      restored = λ i h. ap (λ k. getD (k .standing) i []) (log-append s calls repairs (blank s)) ∙ restored-row s t st l a is off near i h;
+      restored = λ i h. ap (λ k. getD (k .standing) i []) (log-append s calls repairs (blank s)) ∙ restored-row s t st l a is fine off near i h;
       quiet =
           ap (λ k. k .memory .flags) (run-append s (fresh s) (calls ++ repairs) cycle ∙ ap (λ k. runFrom s k cycle) (run-append s (fresh s) calls repairs))
-          ∙ quiet-cycle s t st l a is off near buffers made whole;
+          ∙ quiet-cycle s t st l a is fine off near z lt buffers made whole;
     }

@@ -1,4 +1,5 @@
--- On an array that stays still a whole cycle leaves flags that say which rows are not sound. Assumes nothing.
+-- On an array that stays still a whole cycle leaves flags that say which rows have a digit sum from z on that is not 0, and from 0 on which rows
+-- are not sound. Assumes nothing.
 use mathlib.Core.Path.{_≡_, sym, ap, _∙_}
 use mathlib.Core.Bool.{cond}
 use mathlib.Core.List.{List}
@@ -12,12 +13,15 @@ use Rattle.parity.specs.Codeword.{isCodeword}
 use Rattle.parity.specs.Claims.{Below}
 use Rattle.parity.specs.Questions.{Taken}
 use Rattle.parity.specs.declared.Shape.{Shape}
-use Rattle.parity.proofs.ListLaws.{length-tabulate, getD-tabulate}
+use Rattle.parity.proofs.Taken.{limits}
+use Rattle.parity.proofs.ListLaws.{length-tabulate, getD-tabulate, tabulate-same}
+use Rattle.schedule.specs.Coarse.{isBalancedFrom}
+use Rattle.schedule.proofs.Balanced.{sound-test}
 use Rattle.array_memory.specs.Geometry.{rowAt}
 use Rattle.array_memory.specs.Memory.{cellCount}
 use Rattle.array_memory.proofs.RowPlaces.{row-fits, row-sized}
 use Rattle.cycle.specs.Calls.{State}
-use Rattle.detection.specs.Claims.{StillClaim}
+use Rattle.detection.specs.Claims.{StillClaim, StillSoundClaim}
 use Rattle.cycle.proofs.Steps.{lines-ended}
 use Rattle.detection.proofs.Course.{Underway, underway}
 
@@ -29,20 +33,26 @@ unfolding rowAt cellCount
 row-below s cells i h below j l =
     rw (getD-take, getD-drop) (below (i * columns s + j) (omega (arith, row-fits i (s .rows) (columns s) h)))
 
-module _ (s : Shape) (t : Taken s) where
+module _ (z : ℕ) (s : Shape) (t : Taken s) where
   flags-ended :
-      (cells : List ℕ) (st : State) → Below (levels s) (cellCount s) cells → Underway s cells (lookups s) st
-      → st .memory .flags ≡ tabulate (s .rows) (λ i. cond (isCodeword s (rowAt (columns s) cells i)) 0 1)
+      (cells : List ℕ) (st : State) → Below (levels s) (cellCount s) cells → Underway z s cells (lookups z s) st
+      → st .memory .flags ≡ tabulate (s .rows) (λ i. cond (isBalancedFrom z s (rowAt (columns s) cells i)) 0 1)
   flags-ended cells st below u =
-      let sound : ℕ → ℕ = λ i. cond (isCodeword s (rowAt (columns s) cells i)) 0 1 in
+      let sound : ℕ → ℕ = λ i. cond (isBalancedFrom z s (rowAt (columns s) cells i)) 0 1 in
       let below′ : Below (levels s) (cellCount s) (st .memory .cells) = rw (u .still) below in
       ext-getD 0 (st .memory .flags) (tabulate (s .rows) sound) (u .sized .rows .flags ∙ sym (length-tabulate (s .rows) sound))
       (λ i h.
       let l : i < s .rows = omega (arith, u .sized .rows .flags) in
-      lines-ended s st t (u .lines) i l (row-sized s (st .memory .cells) i (u .sized .cells) l) (row-below s (st .memory .cells) i l below′)
-      ∙ ap (λ held. cond (isCodeword s (rowAt (columns s) held i)) 0 1) (u .still)
+      lines-ended s st t z (u .lines) i l (row-sized s (st .memory .cells) i (u .sized .cells) l) (row-below s (st .memory .cells) i l below′)
+      ∙ ap (λ held. cond (isBalancedFrom z s (rowAt (columns s) held i)) 0 1) (u .still)
       ∙ sym (getD-tabulate (s .rows) sound i 0 l))
 
 pub stillClaim : StillClaim
-stillClaim s t st z below buffers sized whole =
-    flags-ended s t (st .memory .cells) _ below (rw whole at (underway s t st z buffers sized (omega arith)))
+stillClaim z s t lt st lent below buffers sized whole =
+    flags-ended z s t (st .memory .cells) _ below (rw whole at (underway z s t lt st lent buffers sized (omega arith)))
+
+pub stillSoundClaim : StillSoundClaim
+stillSoundClaim s t st lent below buffers sized whole =
+    stillClaim 0 s t (limits s t .digitsLow) st lent below buffers sized whole
+    ∙ tabulate-same (s .rows) _ _
+    (λ i h. ap (λ b. cond b 0 1) (sound-test s _ (row-sized s (st .memory .cells) i (lent .cells) h) (row-below s (st .memory .cells) i h below)))

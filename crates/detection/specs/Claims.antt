@@ -3,15 +3,16 @@ use mathlib.Core.Path.{_≡_}
 use mathlib.Core.Logic.{_↔_}
 use mathlib.Core.Bool.{true, false, cond}
 use mathlib.Core.List.{List, [], _∷_, _++_, map}
-use Prim.Native.Nat.{ℕ, _≤_, _<_}
+use Prim.Native.Nat.{ℕ, _-_, _*_, _≤_, _<_}
 use lib.Dec.{eqb}
 use lib.ListN.{length, getD, take, replicate}
 use Rattle.parity.specs.Lists.{tabulate, joined, differences}
 use Rattle.parity.specs.Shape.{levels, columns}
-use Rattle.parity.specs.Matrix.{lookups}
+use Rattle.parity.specs.Matrix.{matrixOnes, lookups}
 use Rattle.parity.specs.Codeword.{isCodeword}
 use Rattle.parity.specs.Questions.{Taken}
 use Rattle.parity.specs.declared.Shape.{Shape}
+use Rattle.schedule.specs.Coarse.{floors, isBalancedFrom}
 use Rattle.array_memory.specs.Geometry.{rowAt}
 use Rattle.array_memory.specs.Memory.{Sized, cellCount}
 use Rattle.cycle.specs.Record.{cycleAt, isNext}
@@ -33,29 +34,63 @@ phaseOf none = Idle
 phaseOf open-cycle = Open
 phaseOf ended = Complete
 
--- flag 0 where the two forms of a row are equal, and 1 where they are not
+-- flag 0 where what is seen of the two forms of a row is equal, and 1 where it is not
 pub record RightFlag (written standing : List ℕ) (flag : ℕ) : Type 0 where
   pub unchanged : written ≡ standing → flag ≡ 0
   pub changed : (written ≡ standing → ⊥) → flag ≡ 1
 
+-- row i after a list of calls: as written, as it stands, and its flag
+abbrev pub wroteAt : Shape → List Call → ℕ → List ℕ
+wroteAt s calls i = getD (log s calls .written) i []
+
+abbrev pub standsAt : Shape → List Call → ℕ → List ℕ
+standsAt s calls i = getD (log s calls .standing) i []
+
+abbrev pub flagAt : Shape → List Call → ℕ → ℕ
+flagAt s calls i = getD (run s calls .memory .flags) i 0
+
 -- After a list of calls the cells are the rows as they stand, and the record is idle, open or complete as the log's cycle is none, open or
--- ended, with the log's count. A cycle ends exactly at its accepted step (q − 1) × W: the count is that number where it has ended and below it
--- where it is open. And where a cycle has ended with the mark off, so that no accepted drift fell between its start and its last step nor
--- since, each row whose two forms differ in at most τ cells has flag 0 if they are equal and 1 if not.
+-- ended, with the log's count and the log's z. A cycle ends exactly at its accepted step (q / ρ^z − 1) × W: the count is that number where it has
+-- ended and below it where it is open. And where a cycle has ended with the mark off, so that no accepted drift fell between its start and its
+-- last step nor since, each row of whose cells at most τ differ between its two forms in floor(level / ρ^z) has flag 0 if none does and 1 if
+-- some do.
 pub record Detects (s : Shape) (calls : List Call) : Type 0 where
   pub cells : run s calls .memory .cells ≡ flat (log s calls .standing)
   pub phase : run s calls .cycle .phase ≡ phaseOf (log s calls .course)
   pub count : run s calls .cycle .count ≡ log s calls .count
-  pub open-below : log s calls .course ≡ open-cycle → run s calls .cycle .count < lookups s
-  pub ended-at : log s calls .course ≡ ended → run s calls .cycle .count ≡ lookups s
+  pub skip : run s calls .cycle .skip ≡ log s calls .skip
+  pub open-below : log s calls .course ≡ open-cycle → run s calls .cycle .count < lookups (log s calls .skip) s
+  pub ended-at : log s calls .course ≡ ended → run s calls .cycle .count ≡ lookups (log s calls .skip) s
   pub verdict :
       log s calls .course ≡ ended → log s calls .mark ≡ false → (i : ℕ) → i < s .rows
-      → differences (getD (log s calls .written) i []) (getD (log s calls .standing) i []) ≤ s .errors
-      → RightFlag (getD (log s calls .written) i []) (getD (log s calls .standing) i []) (getD (run s calls .memory .flags) i 0)
+      → let z = log s calls .skip in
+      differences (floors z s (wroteAt s calls i)) (floors z s (standsAt s calls i)) ≤ s .errors
+      → RightFlag (floors z s (wroteAt s calls i)) (floors z s (standsAt s calls i)) (flagAt s calls i)
 
--- Demand 3: every shape taken, every list of calls.
+-- Every shape taken, every list of calls.
 abbrev pub DetectionClaim : Type 0
 DetectionClaim = (s : Shape) → Taken s → (calls : List Call) → Detects s calls
+
+-- Demand 3's own sentence, of a cycle that skips no digit: it ends exactly at its accepted step (q − 1) × W, and where it has ended with the mark
+-- off, each row whose two forms differ in at most τ cells has flag 0 if they are equal and 1 if not.
+pub record DetectsAll (s : Shape) (calls : List Call) : Type 0 where
+  pub open-below : log s calls .course ≡ open-cycle → run s calls .cycle .count < (levels s - 1) * matrixOnes s
+  pub ended-at : log s calls .course ≡ ended → run s calls .cycle .count ≡ (levels s - 1) * matrixOnes s
+  pub verdict :
+      log s calls .course ≡ ended → log s calls .mark ≡ false → (i : ℕ) → i < s .rows
+      → differences (wroteAt s calls i) (standsAt s calls i) ≤ s .errors → RightFlag (wroteAt s calls i) (standsAt s calls i) (flagAt s calls i)
+
+abbrev pub DemandClaim : Type 0
+DemandClaim = (s : Shape) → Taken s → (calls : List Call) → log s calls .skip ≡ 0 → DetectsAll s calls
+
+-- Card 2's sentence, under demand 3's premises: a row whose two forms differ in at most τ cells is flagged exactly when some cell differs in
+-- floor(level / ρ^z).
+abbrev pub CoarseClaim : Type 0
+CoarseClaim =
+    (s : Shape) → Taken s → (calls : List Call) → log s calls .course ≡ ended → log s calls .mark ≡ false → (i : ℕ) → i < s .rows
+    → let z = log s calls .skip in
+    differences (wroteAt s calls i) (standsAt s calls i) ≤ s .errors
+    → RightFlag (floors z s (wroteAt s calls i)) (floors z s (standsAt s calls i)) (flagAt s calls i)
 
 -- No list makes a cell of q or more.
 abbrev pub LevelsClaim : Type 0
@@ -70,46 +105,64 @@ abbrev pub Buffers : Shape → List (List ℕ) → Type 0
 Buffers s [] = Unit {0}
 Buffers s (buffer ∷ buffers) = (length buffer ≡ s .rows) × Buffers s buffers
 
--- A cycle is complete exactly at its accepted step (q − 1) × W: a start and c accepted steps leave the record of c, open below that number
--- and complete at it, whatever stood in counters, flags, record and buffers before, and for every number of rows.
+-- A cycle is complete exactly at its accepted step (q / ρ^z − 1) × W: a start with z and c accepted steps leave the record of c, open below that
+-- number and complete at it, whatever stood in counters, flags, record and buffers before, and for every number of rows.
 abbrev pub CourseClaim : Type 0
 CourseClaim =
-    (s : Shape) → Taken s → (st : State) → Sized s (st .memory) → (buffers : List (List ℕ)) → Buffers s buffers → length buffers ≤ lookups s
-    → (runFrom s st (start ∷ stepsWith buffers) .cycle ≡ cycleAt s (length buffers))
-    × (cycleAt s (length buffers) .count ≡ length buffers)
-    × ((length buffers < lookups s) → cycleAt s (length buffers) .phase ≡ Open)
-    × ((length buffers ≡ lookups s) → cycleAt s (length buffers) .phase ≡ Complete)
+    (z : ℕ) (s : Shape) → Taken s → z < s .digits → (st : State) → Sized s (st .memory)
+    → (buffers : List (List ℕ)) → Buffers s buffers → length buffers ≤ lookups z s
+    → (runFrom s st (start z ∷ stepsWith buffers) .cycle ≡ cycleAt z s (length buffers))
+    × (cycleAt z s (length buffers) .count ≡ length buffers)
+    × ((length buffers < lookups z s) → cycleAt z s (length buffers) .phase ≡ Open)
+    × ((length buffers ≡ lookups z s) → cycleAt z s (length buffers) .phase ≡ Complete)
 
--- Question 9 asks whether the record is one that a start and accepted steps on this shape leave, with a vector still to come.
+-- Question 9 asks whether the record is one that a start with some z and accepted steps on this shape leave, with a vector still to come.
 abbrev pub QuestionNineClaim : Type 0
 QuestionNineClaim =
     (s : Shape) → Taken s → (cycle : Cycle)
     → (isNext s cycle ≡ true)
-    ↔ ((buffers : List (List ℕ)) × Buffers s buffers × (length buffers < lookups s) × (cycle ≡ run s (start ∷ stepsWith buffers) .cycle))
+    ↔ ((z : ℕ)
+    × (z < s .digits)
+    × (buffers : List (List ℕ))
+    × Buffers s buffers
+    × (length buffers < lookups z s)
+    × (cycle ≡ run s (start z ∷ stepsWith buffers) .cycle))
 
--- On an array that stays still, with all cells below q, a start and a whole cycle leave flags that say exactly which rows are not sound,
--- whatever counters and flags were before; also beyond τ changed cells. (`isCodeword` is `Codeword` as a test: `CodewordClaim` of parity.)
+-- On an array that stays still, with all cells below q, a start with z and a whole cycle leave flags that say exactly which rows have a digit sum
+-- of some s from z on that isn't 0 mod ρ, whatever counters and flags were before; also beyond τ changed cells. (`isBalancedFrom` is
+-- `BalancedFrom` as a test: `BalancedClaim` of schedule.)
 abbrev pub StillClaim : Type 0
 StillClaim =
+    (z : ℕ) (s : Shape) → Taken s → z < s .digits → (st : State) → Sized s (st .memory)
+    → ((i : ℕ) → i < cellCount s → getD (st .memory .cells) i 0 < levels s)
+    → (buffers : List (List ℕ)) → Buffers s buffers → length buffers ≡ lookups z s
+    → runFrom s st (start z ∷ stepsWith buffers) .memory .flags
+    ≡ tabulate (s .rows) (λ i. cond (isBalancedFrom z s (rowAt (columns s) (st .memory .cells) i)) 0 1)
+
+-- Where no digit is skipped, they say exactly which rows are not sound. (`isCodeword` is `Codeword` as a test: `CodewordClaim` of parity.)
+abbrev pub StillSoundClaim : Type 0
+StillSoundClaim =
     (s : Shape) → Taken s → (st : State) → Sized s (st .memory) → ((i : ℕ) → i < cellCount s → getD (st .memory .cells) i 0 < levels s)
-    → (buffers : List (List ℕ)) → Buffers s buffers → length buffers ≡ lookups s
-    → runFrom s st (start ∷ stepsWith buffers) .memory .flags
+    → (buffers : List (List ℕ)) → Buffers s buffers → length buffers ≡ lookups 0 s
+    → runFrom s st (start 0 ∷ stepsWith buffers) .memory .flags
     ≡ tabulate (s .rows) (λ i. cond (isCodeword s (rowAt (columns s) (st .memory .cells) i)) 0 1)
 
 -- every flagged row programmed again from what was last written
 abbrev pub repair : Shape → List ℕ → List (List ℕ) → List Call
 repair s flags written = joined (s .rows) (λ i. cond (eqb (getD flags i 0) 0) [] (program i (take (s .width) (getD written i [])) ∷ []))
 
--- December's shutdown: after a list whose log is ended with the mark off, and after which every row is within τ cells of its
--- written form, every flagged row is programmed again and a whole cycle is run. Then every row stands as it was written, and no row is flagged.
-pub record Shutdown (s : Shape) (calls : List Call) (buffers : List (List ℕ)) : Type 0 where
+-- December's shutdown: after a list whose log is ended with the mark off, its cycle having skipped no digit, and after which every row is within τ
+-- cells of its written form, every flagged row is programmed again and a whole cycle is run, with any z. Then every row stands as it was written,
+-- and no row is flagged.
+pub record Shutdown (z : ℕ) (s : Shape) (calls : List Call) (buffers : List (List ℕ)) : Type 0 where
   pub restored :
-      (i : ℕ) → i < s .rows
-      → getD (log s (calls ++ repair s (run s calls .memory .flags) (log s calls .written)) .standing) i [] ≡ getD (log s calls .written) i []
-  pub quiet : run s (calls ++ repair s (run s calls .memory .flags) (log s calls .written) ++ start ∷ stepsWith buffers) .memory .flags ≡ replicate (s .rows) 0
+      (i : ℕ) → i < s .rows → standsAt s (calls ++ repair s (run s calls .memory .flags) (log s calls .written)) i ≡ wroteAt s calls i
+  pub quiet :
+      run s (calls ++ repair s (run s calls .memory .flags) (log s calls .written) ++ start z ∷ stepsWith buffers) .memory .flags
+      ≡ replicate (s .rows) 0
 
 abbrev pub ShutdownClaim : Type 0
 ShutdownClaim =
-    (s : Shape) → Taken s → (calls : List Call) → log s calls .course ≡ ended → log s calls .mark ≡ false
-    → ((i : ℕ) → i < s .rows → differences (getD (log s calls .written) i []) (getD (log s calls .standing) i []) ≤ s .errors)
-    → (buffers : List (List ℕ)) → Buffers s buffers → length buffers ≡ lookups s → Shutdown s calls buffers
+    (s : Shape) → Taken s → (calls : List Call) → log s calls .course ≡ ended → log s calls .skip ≡ 0 → log s calls .mark ≡ false
+    → ((i : ℕ) → i < s .rows → differences (wroteAt s calls i) (standsAt s calls i) ≤ s .errors)
+    → (z : ℕ) → z < s .digits → (buffers : List (List ℕ)) → Buffers s buffers → length buffers ≡ lookups z s → Shutdown z s calls buffers

@@ -1,4 +1,4 @@
--- Document 01's log of a list of calls. It is fed the shape and the calls alone: of the library it names the shape's sizes, the questions on
+-- Document 01's log of a list of calls, with the digits that a cycle skips (document 02, Card 2). It is fed the shape and the calls alone: of the library it names the shape's sizes, the questions on
 -- arguments, the encoded row and the length of a cycle.
 use mathlib.Core.Bool.{Bool, true, false, cond}
 use mathlib.Core.List.{List, []}
@@ -11,18 +11,19 @@ use Rattle.parity.specs.Codeword.{encode}
 use Rattle.parity.specs.Questions.{firstNo, ifTaken}
 use Rattle.parity.specs.declared.Shape.{Shape}
 use Rattle.array_memory.specs.Questions.{programArguments, driftArguments}
-use Rattle.cycle.specs.Calls.{stepArguments}
+use Rattle.cycle.specs.Calls.{startArguments, stepArguments}
 use Rattle.cycle.specs.Run.{Call, clear, start, program, drift, lookup, step, followed}
 
 -- the log's cycle: none, open or ended
 pub data Course : Type 0 where
   none open-cycle ended : Course
 
--- Each row in two forms, as written and as it stands; a cycle; a step count; a drift mark.
+-- Each row in two forms, as written and as it stands; a cycle, and the number z of low digits that it skips; a step count; a drift mark.
 pub record Log : Type 0 where
   pub written : List (List ℕ)
   pub standing : List (List ℕ)
   pub course : Course
+  pub skip : ℕ
   pub count : ℕ
   pub mark : Bool
 
@@ -33,6 +34,7 @@ blank s =
       written = replicate (s .rows) (replicate (columns s) 0);
       standing = replicate (s .rows) (replicate (columns s) 0);
       course = none;
+      skip = 0;
       count = 0;
       mark = false;
     }
@@ -44,6 +46,7 @@ logProgram s row given l =
       written = set (l .written) row (encode s given);
       standing = set (l .standing) row (encode s given);
       course = none;
+      skip = 0;
       count = 0;
       mark = l .mark;
     }
@@ -55,21 +58,23 @@ logDrift row column level l =
       written = l .written;
       standing = set (l .standing) row (set (getD (l .standing) row []) column level);
       course = l .course;
+      skip = l .skip;
       count = l .count;
       mark = true;
     }
 
--- start: cycle open, count 0, mark off
-abbrev pub logStart : Log → Log
-logStart l = record { written = l .written; standing = l .standing; course = open-cycle; count = 0; mark = false }
+-- a start that is taken: cycle open, with its z, count 0, mark off
+abbrev pub logStart : ℕ → Log → Log
+logStart z l = record { written = l .written; standing = l .standing; course = open-cycle; skip = z; count = 0; mark = false }
 
--- a step that is taken: 1 is added to the count; at (q − 1) × W the cycle is ended
+-- a step that is taken: 1 is added to the count; at (q / ρ^z − 1) × W the cycle is ended
 abbrev pub logStep : Shape → Log → Log
 logStep s l =
     record {
       written = l .written;
       standing = l .standing;
-      course = cond (eqb (suc (l .count)) (lookups s)) ended open-cycle;
+      course = cond (eqb (suc (l .count)) (lookups (l .skip) s)) ended open-cycle;
+      skip = l .skip;
       count = suc (l .count);
       mark = l .mark;
     }
@@ -83,7 +88,7 @@ whileOpen ended taken refused = refused
 -- the log after a call; a call whose arguments fail a question is refused: no change
 abbrev pub logCall : Shape → Log → Call → Log
 logCall s l clear = blank s
-logCall s l start = logStart l
+logCall s l (start z) = ifTaken (firstNo (startArguments s z)) (logStart z l) l
 logCall s l (program row given) = ifTaken (firstNo (programArguments s row given)) (logProgram s row given l) l
 logCall s l (drift row column level) = ifTaken (firstNo (driftArguments s row column level)) (logDrift row column level l) l
 logCall s l (lookup inputs matches) = l

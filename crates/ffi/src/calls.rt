@@ -16,7 +16,7 @@ ghost use Rattle.ffi.specs.Numbers.{telling};
 // Clear: cells, counters, flags and totals all 0, record idle: the fresh array.
 #[no_mangle]
 pub extern "C" fn jorivelune_clear(
-    words: &mut [usize; 6],
+    words: &mut [usize; 7],
     shape: Shape,
     cells: &mut [u8],
     counters: &mut [u8],
@@ -33,7 +33,7 @@ pub extern "C" fn jorivelune_clear(
 // Program: writes a row of k levels with its check cells; the record becomes idle.
 #[no_mangle]
 pub extern "C" fn jorivelune_program(
-    words: &mut [usize; 6],
+    words: &mut [usize; 7],
     shape: Shape,
     cells: &mut [u8],
     row: usize,
@@ -46,27 +46,29 @@ pub extern "C" fn jorivelune_program(
     store(words, cycle.program(shape, cells, row, given))
 }
 
-// Start: counters, flags and totals 0, record open, count 0, also when a cycle was open.
+// Start: counters, flags and totals 0, record open, count 0, also when a cycle was open. The cycle skips a number of low
+// digits: 0 for the whole cycle.
 #[no_mangle]
 pub extern "C" fn jorivelune_start(
-    words: &mut [usize; 6],
+    words: &mut [usize; 7],
     shape: Shape,
+    skip: usize,
     counters: &mut [u8],
     flags: &mut [u8],
     totals: &mut [u8],
 ) -> u8
-    ensures { λ r. ⌜ ((mem : Memory) → onWords (startCall shape) (withRows (was counters) (was flags) (was totals) mem) (was words)
+    ensures { λ r. ⌜ ((mem : Memory) → onWords (λ st. startCall shape st skip) (withRows (was counters) (was flags) (was totals) mem) (was words)
         ≡ giving (telling r 0) [] (storedOf (withRows (left counters) (left flags) (left totals) mem) (left words))) ⌝ }
 {
     let cycle = cycle_of(words);
-    store(words, cycle.start(shape, counters, flags, totals))
+    store(words, cycle.start(shape, skip, counters, flags, totals))
 }
 
 // Step: makes the next lookup of the schedule, writes the match bytes and counts them; where it looks for rows to flag,
 // counts the blocks' totals anew.
 #[no_mangle]
 pub extern "C" fn jorivelune_step(
-    words: &mut [usize; 6],
+    words: &mut [usize; 7],
     shape: Shape,
     cells: &[u8],
     counters: &mut [u8],
@@ -88,21 +90,22 @@ pub extern "C" fn jorivelune_step(
 // One whole cycle: a start and all its steps.
 #[no_mangle]
 pub extern "C" fn jorivelune_run(
-    words: &mut [usize; 6],
+    words: &mut [usize; 7],
     shape: Shape,
+    skip: usize,
     cells: &[u8],
     counters: &mut [u8],
     flags: &mut [u8],
     totals: &mut [u8],
     matches: &mut [u8],
 ) -> u8
-    ensures { λ r. ⌜ ((mem : Memory) → onWords (λ st. cycleCall shape st (was matches))
+    ensures { λ r. ⌜ ((mem : Memory) → onWords (λ st. cycleCall shape st skip (was matches))
         (withAll (was cells) (was counters) (was flags) (was totals) mem) (was words)
         ≡ giving (telling r 0) (left matches) (storedOf (withAll (was cells) (left counters) (left flags) (left totals) mem) (left words))) ⌝ }
 {
     let cycle = cycle_of(words);
     store(
         words,
-        run_cycle(cycle, shape, cells, counters, flags, totals, matches),
+        run_cycle(cycle, shape, skip, cells, counters, flags, totals, matches),
     )
 }

@@ -11,4 +11,4 @@ phase-back Open = refl
 phase-back Complete = refl
 
 pub wordsClaim : WordsClaim
-wordsClaim cycle = λ i. record { phase = phase-back (cycle .phase) i; place = cycle .place; count = cycle .count }
+wordsClaim cycle = λ i. record { phase = phase-back (cycle .phase) i; place = cycle .place; count = cycle .count; skip = cycle .skip }

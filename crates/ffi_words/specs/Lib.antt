@@ -1,3 +1,3 @@
--- The cycle record as six words, that no record is lost in them, and a call on a record that lies in words.
+-- The cycle record as seven words, that no record is lost in them, and a call on a record that lies in words.
 pub mod Words
 pub mod Claims

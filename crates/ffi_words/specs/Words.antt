@@ -1,4 +1,5 @@
--- The cycle record as six words: its phase, check, digit, column, factor and count; and a call on a record that lies in words.
+-- The cycle record as seven words: its phase, check, digit, column, factor, count and the digits that it skips; and a call on a record that lies
+-- in words.
 use mathlib.Core.Bool.{cond}
 use mathlib.Core.List.{List, [], _∷_}
 use Prim.Native.Nat.{ℕ}
@@ -22,20 +23,21 @@ phaseWord Idle = 0
 phaseWord Open = 1
 phaseWord Complete = 2
 
--- the record that six words tell
+-- the record that seven words tell
 abbrev pub cycleOf : List ℕ → Cycle
 cycleOf words =
     record {
       phase = phaseOf (getD words 0 0);
       place = placeAt (getD words 1 0) (getD words 2 0) (getD words 3 0) (getD words 4 0);
       count = getD words 5 0;
+      skip = getD words 6 0;
     }
 
--- the six words of a record
+-- the seven words of a record
 abbrev pub wordsOf : Cycle → List ℕ
 wordsOf cycle =
     let place = cycle .place in
-    phaseWord (cycle .phase) ∷ place .check ∷ place .digit ∷ place .column ∷ place .factor ∷ cycle .count ∷ []
+    phaseWord (cycle .phase) ∷ place .check ∷ place .digit ∷ place .column ∷ place .factor ∷ cycle .count ∷ cycle .skip ∷ []
 
 -- the words after a call: those of its record where it is taken, those given where it is refused
 abbrev pub wordsAfter : Said ℕ → Cycle → List ℕ → List ℕ

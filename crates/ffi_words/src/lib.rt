@@ -1,5 +1,5 @@
-// The record as six words: its phase (0 idle, 1 open, 2 complete), check, digit, column, factor and count. Any other
-// phase is read as idle.
+// The record as seven words: its phase (0 idle, 1 open, 2 complete), check, digit, column, factor, count and the digits
+// that it skips. Any other phase is read as idle.
 use cycle::Changed;
 use cycle::Cycle;
 use cycle::Phase;
@@ -30,7 +30,7 @@ fn phase_word(phase: Phase) -> usize
     }
 }
 
-pub fn cycle_of(words: &[usize; 6]) -> Cycle
+pub fn cycle_of(words: &[usize; 7]) -> Cycle
     ensures { λ r. ⌜ r ≡ cycleOf (was words) ⌝ }
 {
     Cycle {
@@ -42,10 +42,11 @@ pub fn cycle_of(words: &[usize; 6]) -> Cycle
             factor: words[4],
         },
         count: words[5],
+        skip: words[6],
     }
 }
 
-fn words_of(cycle: Cycle) -> [usize; 6]
+fn words_of(cycle: Cycle) -> [usize; 7]
     ensures { λ r. ⌜ r ≡ wordsOf cycle ⌝ }
 {
     let phase = cycle.phase;
@@ -57,11 +58,12 @@ fn words_of(cycle: Cycle) -> [usize; 6]
         place.column,
         place.factor,
         cycle.count,
+        cycle.skip,
     ]
 }
 
 // Stores the record of a call that was taken, and gives the call's number; a refusal leaves the words as they are.
-pub fn store(words: &mut [usize; 6], changed: Changed) -> u8
+pub fn store(words: &mut [usize; 7], changed: Changed) -> u8
     ensures answered { λ r. ⌜ r ≡ outcomeSays (changed .outcome) .number ⌝ }
     ensures recorded { λ _. ⌜ left words ≡ wordsAfter (outcomeSays (changed .outcome)) (changed .cycle) (was words) ⌝ }
 {

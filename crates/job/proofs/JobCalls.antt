@@ -8,18 +8,19 @@ use borrow.Author.Tests.{eq-eqb}
 use Rattle.parity.specs.Matrix.{lookups}
 use Rattle.parity.specs.Questions.{firstNo, ifTaken, Taken}
 use Rattle.parity.specs.declared.Shape.{Shape}
+use Rattle.parity.proofs.Taken.{limits}
 use Rattle.shape.specs.Answers.{accepted, refused, giving, calling}
 use Rattle.shape.proofs.Calling.{call-done}
 use Rattle.array_memory.specs.Memory.{Memory, withCells, withAll, noMemory, Sized}
 use Rattle.array_memory.specs.Questions.{cellsQuestions, programArguments}
 use Rattle.array.specs.Calls.{programmed}
 use Rattle.cycle.specs.Record.{idle}
-use Rattle.cycle.specs.Calls.{State, stateOf, zeroRows, cleared, fresh, clearQuestions, clearCall, programCall}
+use Rattle.cycle.specs.Calls.{State, stateOf, zeroRows, cleared, fresh, clearQuestions, clearCall, programCall, lentQuestions}
 use Rattle.cycle.specs.Calls.{stepQuestions, stepMatches, stepped, stepCall}
 use Rattle.cycle.specs.Run.{Call, clear, start, step, runFrom, run}
 use Rattle.cycle.specs.Methods.{changing, doneWith}
 use Rattle.cycle.specs.declared.Changed.{Changed}
-use Rattle.cycle.proofs.Asked.{clear-asked, lent-asked}
+use Rattle.cycle.proofs.Asked.{skip-asked, clear-asked, lent-asked}
 use Rattle.cycle.proofs.Runs.{run-append}
 use Rattle.cycle.proofs.Steps.{fresh-sized}
 use Rattle.cycle_run.specs.Cycles.{cycleQuestions, lastMatches, cycleCall}
@@ -80,12 +81,15 @@ module _ (s : Shape) where
 
     cycle-left :
         (mem : Memory) → Sized s mem → (matches : List ℕ) → length matches ≡ s .rows
-        → cycleCall s (stateOf mem idle) matches
-        ≡ giving (accepted 0) (lastMatches s mem) (runFrom s (stateOf mem idle) (start ∷ replicate (lookups s) (step matches)))
+        → cycleCall s (stateOf mem idle) 0 matches
+        ≡ giving (accepted 0) (lastMatches 0 s mem) (runFrom s (stateOf mem idle) (start 0 ∷ replicate (lookups 0 s) (step matches)))
     unfolding cycleCall
     cycle-left mem z matches l =
-        let none : firstNo (cycleQuestions s mem matches) ≡ 0 = lent-asked s t (stateOf mem idle) z matches [] ∙ rw (eq-eqb _ _ l) refl in
-        call-done (cycleQuestions s mem matches) matches (stateOf mem idle) _ none
+        let none : firstNo (cycleQuestions s mem 0 matches) ≡ 0 =
+        skip-asked s t 0 (limits s t .digitsLow) (lentQuestions s mem matches) []
+        ∙ lent-asked s t (stateOf mem idle) z matches []
+        ∙ rw (eq-eqb _ _ l) refl in
+        call-done (cycleQuestions s mem 0 matches) matches (stateOf mem idle) _ none
 
 -- ---- a job
 
@@ -100,20 +104,20 @@ module _ (input : List ℕ) (s : Shape) (same : s ≡ jobShape input) (t : Taken
   job-runs :
       (mem next : Memory) → runFrom s (fresh s) programs ≡ stateOf mem idle → runFrom s (stateOf mem idle) drifts ≡ stateOf next idle
       → (matches : List ℕ) → length matches ≡ s .rows
-      → jobState input ≡ runFrom s (stateOf next idle) (start ∷ replicate (lookups s) (step matches))
+      → jobState input ≡ runFrom s (stateOf next idle) (start 0 ∷ replicate (lookups 0 s) (step matches))
   unfolding jobState jobCalls run fresh cleared zeroRows
   job-runs mem next p d matches l =
       let none : List ℕ = replicate (s .rows) 0 in
-      let cycle = start ∷ replicate (lookups s) (step none) in
+      let cycle = start 0 ∷ replicate (lookups 0 s) (step none) in
       ap
       (λ s.
       runFrom s (fresh s)
-      (clear ∷ programCalls input (s .rows) ++ drifts ++ start ∷ replicate (lookups s) (step (replicate (s .rows) 0))))
+      (clear ∷ programCalls input (s .rows) ++ drifts ++ start 0 ∷ replicate (lookups 0 s) (step (replicate (s .rows) 0))))
       (sym same)
       ∙ ap (λ r. runFrom s (r .state) (programs ++ drifts ++ cycle)) (clear-gives s t _ _ _ _ (fresh-sized s))
       ∙ run-append s (fresh s) (programs ++ drifts) cycle
       ∙ ap (λ st. runFrom s st cycle) (run-append s (fresh s) programs drifts ∙ ap (λ st. runFrom s st drifts) p ∙ d)
-      ∙ steps-same s none matches (length-replicate (s .rows) 0 ∙ sym l) (lookups s) _
+      ∙ steps-same s none matches (length-replicate (s .rows) 0 ∙ sym l) (lookups 0 s) _
 
   -- the same by what the calls give, made one after the other
   pub job-ended :
@@ -121,13 +125,13 @@ module _ (input : List ℕ) (s : Shape) (same : s ≡ jobShape input) (t : Taken
       → runFrom s (stateOf mem idle) programs ≡ stateOf programmed idle
       → runFrom s (stateOf programmed idle) drifts ≡ stateOf drifted idle
       → Sized s drifted → (given : List ℕ) → length given ≡ s .rows
-      → (r : Changed) (matches : List ℕ) → cycleCall s (stateOf drifted idle) given ≡ changing r matches last
+      → (r : Changed) (matches : List ℕ) → cycleCall s (stateOf drifted idle) 0 given ≡ changing r matches last
       → drifted .cells ≡ last .cells
       → giving (accepted 0) (jobMatches input) (jobState input) ≡ changing (doneWith (r .cycle)) matches last
   unfolding jobMatches lastMatches
   job-ended mem programmed drifted last f p d z given l r matches ran cells =
       let gives = sym (cycle-left s t drifted z given l) ∙ ran in
       let state = job-runs programmed drifted (ap (λ st. runFrom s st programs) f ∙ p) d given l ∙ ap (λ r. r .state) gives in
-      let seen : jobMatches input ≡ lastMatches s last = ap₂ (λ s st. lastMatches s (st .memory)) (sym same) state in
-      let bytes = seen ∙ ap (λ cells. lastMatches s (withCells cells last)) (sym cells) ∙ ap (λ r. r .bytes) gives in
+      let seen : jobMatches input ≡ lastMatches 0 s last = ap₂ (λ s st. lastMatches 0 s (st .memory)) (sym same) state in
+      let bytes = seen ∙ ap (λ cells. lastMatches 0 s (withCells cells last)) (sym cells) ∙ ap (λ r. r .bytes) gives in
       ap₂ (giving (accepted 0)) bytes state

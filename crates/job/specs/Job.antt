@@ -26,15 +26,15 @@ programCalls input rows = joined rows (λ i. program i (rowLevels input i) ∷ [
 abbrev pub driftCalls : List ℕ → ℕ → List Call
 driftCalls input count = joined count (λ i. drift (driftRow input i) (driftColumn input i) (driftLevel input i) ∷ [])
 
--- it clears, programs every row, applies the drifts, runs one cycle
+-- it clears, programs every row, applies the drifts, runs one cycle that skips no digit
 unfoldable pub jobCalls : List ℕ → List Call
 jobCalls input =
     let s = jobShape input in
     clear
     ∷ programCalls input (s .rows)
     ++ driftCalls input (driftCount input)
-    ++ start
-    ∷ replicate (lookups s) (step (replicate (s .rows) 0))
+    ++ start 0
+    ∷ replicate (lookups 0 s) (step (replicate (s .rows) 0))
 
 -- the state that the calls' own definitions leave
 unfoldable pub jobState : List ℕ → State
@@ -42,7 +42,7 @@ jobState input = run (jobShape input) (jobCalls input)
 
 -- the match bytes of the cycle's last lookup
 unfoldable pub jobMatches : List ℕ → List ℕ
-jobMatches input = lastMatches (jobShape input) (jobState input .memory)
+jobMatches input = lastMatches 0 (jobShape input) (jobState input .memory)
 
 -- ---- what it prints
 

@@ -70,6 +70,15 @@ pub(crate) fn run_calls(
     Cycle::IDLE.clear(shape, cells, counters, flags, totals);
     program_rows(input, shape, cells);
     drift_cells(input, shape, from, cells);
-    let ended = run_cycle(Cycle::IDLE, shape, cells, counters, flags, totals, matches);
+    let ended = run_cycle(
+        Cycle::IDLE,
+        shape,
+        0,
+        cells,
+        counters,
+        flags,
+        totals,
+        matches,
+    );
     ended.cycle
 }

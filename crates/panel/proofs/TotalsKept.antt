@@ -15,7 +15,7 @@ use Rattle.array_memory.proofs.BlockPlaces.{block-low, block-flag}
 use Rattle.array_memory.proofs.FlagCounts.{zero-count}
 use Rattle.array.specs.Calls.{programmed, drifted, driftCall}
 use Rattle.array_lookup.specs.Lookups.{lookupCall}
-use Rattle.cycle.specs.Record.{entryAt}
+use Rattle.cycle.specs.Record.{nextEntry}
 use Rattle.cycle.specs.Calls.{State, zeroRows, cleared, fresh, clearCall, programCall, started, startCall, flaggedRows, steppedMemory, stepped, stepCall}
 use Rattle.cycle.specs.Run.{Call, clear, start, program, drift, lookup, step, after, run}
 use Rattle.cycle.proofs.Runs.{keepClaim}
@@ -57,16 +57,16 @@ module _ (s : Shape) where
 
   counted-anew : (st : State) → Totalled s (st .memory) → Totalled s (steppedMemory s st)
   unfolding steppedMemory flaggedRows
-  counted-anew st t = record { sized = length-tabulate (s .rows) _; counted = go (entryAt s (st .cycle .count) .flags) refl }
+  counted-anew st t = record { sized = length-tabulate (s .rows) _; counted = go (nextEntry s (st .cycle) .flags) refl }
     where
-      go : (b : Bool) → entryAt s (st .cycle .count) .flags ≡ b → steppedMemory s st .totals ≡ blockTotals (steppedMemory s st .flags)
+      go : (b : Bool) → nextEntry s (st .cycle) .flags ≡ b → steppedMemory s st .totals ≡ blockTotals (steppedMemory s st .flags)
       go true e = sym (totals-counted s st e refl refl)
       go false e = sym (totals-kept s st e) ∙ t .counted ∙ ap blockTotals (flags-kept s st e (t .sized))
 
   keeps : (st : State) (c : Call) → Totalled s (st .memory) → Totalled s (after s st c .memory)
   unfolding clearCall cleared programCall programmed startCall started driftCall drifted lookupCall stepCall stepped
   keeps st clear t = call-keeps _ _ st _ (λ st. Totalled s (st .memory)) t (cells-apart s _ (zeroed (st .memory)) _)
-  keeps st start t = call-keeps _ _ st _ (λ st. Totalled s (st .memory)) t (zeroed (st .memory))
+  keeps st (start z) t = call-keeps _ _ st _ (λ st. Totalled s (st .memory)) t (zeroed (st .memory))
   keeps st (program row given) t = call-keeps _ _ st _ (λ st. Totalled s (st .memory)) t (cells-apart s (st .memory) t _)
   keeps st (drift row column level) t = call-keeps _ _ (st .memory) _ (Totalled s) t (cells-apart s (st .memory) t _)
   keeps st (lookup inputs matches) t = call-keeps _ _ (st .memory) _ (Totalled s) t t

@@ -14,7 +14,7 @@ threeBlocks = record { radix = 2; digits = 1; errors = 1; width = 1; rows = 130 
 
 -- a whole cycle
 abbrev pub wholeCycle : List Call
-wholeCycle = start ∷ step (replicate 130 7) ∷ step (replicate 130 7) ∷ []
+wholeCycle = start 0 ∷ step (replicate 130 7) ∷ step (replicate 130 7) ∷ []
 
 -- no drift; one in the last block; one in each of two blocks
 unfoldable pub examples : List (List Call)

@@ -7,6 +7,7 @@ use parity::Shape;
 use shape::answer::First;
 use shape::byte::wide;
 use shape::sizes::Checked;
+use shape::sizes::check_shape;
 ghost use mathlib.Core.Path.{_≡_};
 ghost use Prim.Native.Nat.{_≤_};
 ghost use lib.ListN.{length};
@@ -108,7 +109,7 @@ fn read_blocks(flags: &[u8], totals: &[u8]) -> Summary
 pub fn panel(shape: Shape, flags: &[u8], totals: &[u8]) -> Summary
     ensures { λ r. ⌜ ((mem : Memory) → panelCall shape (withFlagged (was flags) (was totals) mem) ≡ panelSays r) ⌝ }
 {
-    match check_flags(shape, flags.len(), totals.len()) {
+    match check_flags(check_shape(shape), shape, flags.len(), totals.len()) {
         Checked::Refused(number) => Summary {
             total: 0,
             first: First::Refused(number),

@@ -35,6 +35,7 @@ fn lookups_made(shape: Shape, columns: usize) -> usize {
     let ended = run_cycle(
         Cycle::IDLE,
         shape,
+        0,
         &cells[..columns],
         &mut counters,
         &mut flags,

@@ -4,7 +4,7 @@ use mathlib.Core.Logic.{⊎-elim}
 use mathlib.Core.Bool.{Bool, true}
 use mathlib.Core.List.{List, [], _∷_}
 use Prim.Native.Nat.{ℕ, zero, suc, _+_, _*_, _^_, _≤_, suc-le-suc}
-use native.Mathlib.Nat.{mul-le-mul, zero-lt-suc}
+use native.Mathlib.Nat.{mul-le-mul, zero-lt-suc, div-le-self}
 use native.Mathlib.Omega.{arith}
 use lib.Dec.{leb}
 use lib.ListN.{length, take, drop, take-append-drop}
@@ -74,9 +74,10 @@ matrixOnes-high s t =
     ))
     (errors-split s t))
 
-pub lookups-high : (s : Shape) → Taken s → lookups s ≤ 261120
+pub lookups-high : (z : ℕ) (s : Shape) → Taken s → lookups z s ≤ 261120
 unfolding lookups
-lookups-high s t = mul-le-mul {n₂ = 255} {m₂ = 1024} (omega (arith, limits s t .levelsHigh)) (matrixOnes-high s t)
+lookups-high z s t =
+    mul-le-mul {n₂ = 255} {m₂ = 1024} (omega (arith, limits s t .levelsHigh, div-le-self (levels s) (s .radix ^ z))) (matrixOnes-high s t)
 
 -- ---- the largest shape
 
@@ -89,7 +90,7 @@ longest-ones : sumOver (matrix longestShape) weight ≡ 1024
 unfolding matrix ruleColumns checkColumns columnOrder ofWeight weight eligible digit checks redundancy largest
 longest-ones = refl
 
-longest-lookups : lookups longestShape ≡ 261120
+longest-lookups : lookups 0 longestShape ≡ 261120
 unfolding lookups levels
 longest-lookups = ap (λ w. 255 * w) (matrixOnes-weights longestShape longest-taken ∙ longest-ones)
 

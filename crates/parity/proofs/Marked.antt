@@ -20,7 +20,7 @@ holds (sound s row) = isCodeword s row
 holds (unsound s row) = not (isCodeword s row)
 holds (differ s x y cells) = eqb (differences x y) cells && ltb (s .errors) cells
 holds (onesAre s w) = eqb (matrixOnes s) w
-holds (lookupsAre s c) = eqb (lookups s) c
+holds (lookupsAre s c) = eqb (lookups 0 s) c
 holds (checksAre s r) = eqb (checks s) r
 holds (refusedBy s n) = eqb (shapeRefusal s) n
 

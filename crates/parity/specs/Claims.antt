@@ -88,8 +88,9 @@ pub record RedundancyClaim (s : Shape) : Type 0 where
 abbrev pub longestShape : Shape
 longestShape = record { radix = 2; digits = 8; errors = 2; width = 247; rows = 1 }
 
--- The longest cycle: no shape taken has more than 261,120 lookups, 255 for each of 1,024 ones, and the largest has as many.
+-- The longest cycle: on no shape taken has a cycle more than 261,120 lookups, 255 for each of 1,024 ones, and the largest has as many where
+-- no digit is skipped.
 pub record LongestClaim : Type 0 where
-  pub most : (s : Shape) → Taken s → lookups s ≤ 261120
+  pub most : (z : ℕ) (s : Shape) → Taken s → lookups z s ≤ 261120
   pub taken : Taken longestShape
-  pub reached : lookups longestShape ≡ 261120
+  pub reached : lookups 0 longestShape ≡ 261120

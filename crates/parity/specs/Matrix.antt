@@ -1,7 +1,7 @@
 -- Document 01, "Check matrix" (the paper's parity-check matrix H): a column is a number whose bit ℓ says whether it has a one in check row ℓ.
 use mathlib.Core.Bool.{Bool, cond, _&&_}
 use mathlib.Core.List.{List, [], _∷_, _++_}
-use Prim.Native.Nat.{ℕ, suc, _-_, _*_, _%_, _^_}
+use Prim.Native.Nat.{ℕ, suc, _-_, _*_, _/_, _%_, _^_}
 use lib.Dec.{eqb, leb, ltb}
 use lib.ListN.{length, take, replicate}
 use Rattle.parity.specs.Lists.{tabulate, joined, keep, sumTo}
@@ -53,6 +53,6 @@ support s ℓ = placesFrom 0 ℓ (matrix s)
 unfoldable pub matrixOnes : Shape → ℕ
 matrixOnes s = sumTo (checks s) (λ ℓ. length (support s ℓ))
 
--- the lookups of a detection cycle
-unfoldable pub lookups : Shape → ℕ
-lookups s = (levels s - 1) * matrixOnes s
+-- the lookups of a detection cycle that skips the z lowest digits: (q / ρ^z − 1) × W
+unfoldable pub lookups : ℕ → Shape → ℕ
+lookups z s = (levels s / s .radix ^ z - 1) * matrixOnes s

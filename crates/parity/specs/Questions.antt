@@ -58,6 +58,10 @@ shapeRefusal s = firstNo (shapeQuestions s)
 abbrev pub Taken : Shape → Type 0
 Taken s = shapeRefusal s ≡ 0
 
+-- 15: is the number z of low digits to skip below b?
+abbrev pub skipQuestion : Shape → ℕ → Question
+skipQuestion s z = record { number = 15; holds = ltb z (s .digits) }
+
 -- 6: has a lent buffer exactly its length?
 abbrev pub lengthQuestion : ℕ → ℕ → Question
 lengthQuestion lent wanted = record { number = 6; holds = eqb lent wanted }

@@ -14,7 +14,7 @@ use Rattle.parity.specs.Matrix.{support}
 use Rattle.parity.specs.Questions.{Taken}
 use Rattle.parity.specs.declared.Shape.{Shape}
 use Rattle.parity.proofs.Taken.{limits}
-use Rattle.schedule.specs.Schedule.{Plan, digitsOf, Entry, factors, within, ending, testVector, ofDigit, ofCheck, schedule}
+use Rattle.schedule.specs.Schedule.{Entry, factors, within, ending, testVector, ofDigit, ofCheck, schedule}
 use Rattle.schedule.specs.Line.{freshLine}
 use Rattle.schedule.specs.Claims.{CapClaim}
 use Rattle.schedule.proofs.All.{All, all-at, all-turn, all-joined, all-atLast, all-pairs}
@@ -31,22 +31,22 @@ pub record Proper (s : Shape) (e : Entry) : Type 0 where
   pub factor : 1 ≤ e .factor
   pub input : e .factor * s .radix ^ e .digit < levels s
 
-pub proper-all : (plan : Plan) (s : Shape) → Taken s → All (Proper s) (schedule plan s)
+pub proper-all : (z : ℕ) (s : Shape) → Taken s → All (Proper s) (schedule z s)
 unfolding schedule ofCheck ofDigit
-proper-all plan s t =
-    all-joined (Proper s) (checks s) (ofCheck plan s) λ ℓ h.
-    all-joined (Proper s) (digitsOf plan s) (λ i. ofDigit plan s ℓ (s .digits - suc i)) λ i l.
+proper-all z s t =
+    all-joined (Proper s) (checks s) (ofCheck z s) λ ℓ h.
+    all-joined (Proper s) (s .digits - z) (λ i. ofDigit z s ℓ (s .digits - suc i)) λ i l.
     let d : ℕ = s .digits - suc i in
     let lt : d < s .digits = omega (arith, limits s t .digitsLow) in
-    all-atLast (Proper s) (ending plan)
+    all-atLast (Proper s) (ending z)
     (λ e p. record { check = p .check; digit = p .digit; column = p .column; factor = p .factor; input = p .input }) (entries s ℓ d)
     (all-pairs (Proper s) (λ j. j < columns s) (λ a. (1 ≤ a) × (a * s .radix ^ d < levels s)) (within ℓ d)
     (λ j a k m. record { check = h; digit = lt; column = k; factor = m .0; input = m .1 }) (support s ℓ) (factors s d) (support-below s t ℓ)
     (factors-inputs s (limits s t .radixLow) d lt))
 
 pub schedule-proper :
-    (plan : Plan) (s : Shape) → Taken s → (c : ℕ) → c < length (schedule plan s) → (d : Entry) → Proper s (getD (schedule plan s) c d)
-schedule-proper plan s t = all-at (Proper s) (schedule plan s) (proper-all plan s t)
+    (z : ℕ) (s : Shape) → Taken s → (c : ℕ) → c < length (schedule z s) → (d : Entry) → Proper s (getD (schedule z s) c d)
+schedule-proper z s t = all-at (Proper s) (schedule z s) (proper-all z s t)
 
 -- an input below q doesn't tell a cell from its cap
 leb-capped : (x q v : ℕ) → x < q → leb x (min v (q - 1)) ≡ leb x v
@@ -74,6 +74,6 @@ match-capped s row sized e p =
     )
 
 pub capClaim : CapClaim
-capClaim plan s t row sized =
-    lineRun-alike s row (map (λ v. min v (levels s - 1)) row) (schedule plan s)
-    (all-turn (Proper s) _ (match-capped s row sized) (schedule plan s) (proper-all plan s t)) freshLine
+capClaim z s t row sized =
+    lineRun-alike s row (map (λ v. min v (levels s - 1)) row) (schedule z s)
+    (all-turn (Proper s) _ (match-capped s row sized) (schedule z s) (proper-all z s t)) freshLine

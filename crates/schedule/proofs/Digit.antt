@@ -1,5 +1,5 @@
 -- The lookups of one ℓ and s on a line: the match bytes are counted mod ρ, and at the last the row is flagged if the counter is not 0 and the
--- counter returns to 0 where s is the plan's lowest. Assumes nothing.
+-- counter returns to 0 where s is z. Assumes nothing.
 use mathlib.Core.Path.{_≡_, refl, sym, ap, ap₂, _∙_}
 use mathlib.Core.Bool.{Bool, true, false, cond, not}
 use mathlib.Core.List.{List, [], _∷_}
@@ -11,7 +11,7 @@ use lib.ListN.{length}
 use Rattle.parity.specs.Lists.{sumOver}
 use Rattle.parity.specs.Match.{matchByte}
 use Rattle.parity.specs.declared.Shape.{Shape}
-use Rattle.schedule.specs.Schedule.{Plan, lowest, Entry, atLast, ending, testVector}
+use Rattle.schedule.specs.Schedule.{Entry, atLast, ending, testVector}
 use Rattle.schedule.specs.Line.{Line, counted, flagged, reset, lineStep, lineRun}
 use Rattle.schedule.proofs.All.{All}
 
@@ -19,8 +19,8 @@ abbrev pub line : ℕ → ℕ → Line
 line c f = record { counter = c; flag = f }
 
 -- the line at the end of digit s, where c has been counted
-abbrev pub ended : Plan → ℕ → ℕ → ℕ → Line
-ended plan s c f = line (cond (eqb s (lowest plan)) 0 c) (cond (eqb c 0) f 1)
+abbrev pub ended : ℕ → ℕ → ℕ → ℕ → Line
+ended z s c f = line (cond (eqb s z) 0 c) (cond (eqb c 0) f 1)
 
 -- an entry of digit s that counts and no more
 pub record Plain (s : ℕ) (e : Entry) : Type 0 where
@@ -48,22 +48,22 @@ module _ (shape : Shape) (row : List ℕ) where
   unfolding flagged reset
   step-plain s c f e p = step-counted c f e ∙ simp (p .resets, p .flags)
 
-module _ (plan : Plan) (shape : Shape) (row : List ℕ) where
+module _ (z : ℕ) (shape : Shape) (row : List ℕ) where
   step-last :
       (s c f : ℕ) (e : Entry) → Plain s e
-      → lineStep shape row (ending plan e) (line (c % shape .radix) f) ≡ ended plan s ((c + matched shape row e) % shape .radix) f
+      → lineStep shape row (ending z e) (line (c % shape .radix) f) ≡ ended z s ((c + matched shape row e) % shape .radix) f
   unfolding flagged reset testVector
   step-last s c f e p =
       let d : ℕ = (c + matched shape row e) % shape .radix in
-      step-counted shape row c f (ending plan e) ∙ ap₂ line (ap (λ i. cond (eqb i (lowest plan)) 0 d) (p .digit)) (turned (eqb d 0) f)
+      step-counted shape row c f (ending z e) ∙ ap₂ line (ap (λ i. cond (eqb i z) 0 d) (p .digit)) (turned (eqb d 0) f)
 
   pub run-digit :
       (s c f : ℕ) (es : List Entry) → All (Plain s) es → 0 < length es
-      → lineRun shape row (atLast (ending plan) es) (line (c % shape .radix) f) ≡ ended plan s ((c + sumOver es (matched shape row)) % shape .radix) f
+      → lineRun shape row (atLast (ending z) es) (line (c % shape .radix) f) ≡ ended z s ((c + sumOver es (matched shape row)) % shape .radix) f
   run-digit s c f [] p h = absurd (not-suc-le-zero h)
   run-digit s c f (e ∷ []) p h =
-      step-last s c f e (p .0) ∙ ap (λ x. ended plan s ((c + x) % shape .radix) f) (sym (add-zero (matched shape row e)))
+      step-last s c f e (p .0) ∙ ap (λ x. ended z s ((c + x) % shape .radix) f) (sym (add-zero (matched shape row e)))
   run-digit s c f (e ∷ e′ ∷ es) p h =
-      ap (lineRun shape row (atLast (ending plan) (e′ ∷ es))) (step-plain shape row s c f e (p .0))
+      ap (lineRun shape row (atLast (ending z) (e′ ∷ es))) (step-plain shape row s c f e (p .0))
       ∙ run-digit s (c + matched shape row e) f (e′ ∷ es) (p .1) (omega arith)
-      ∙ ap (λ x. ended plan s (x % shape .radix) f) (add-assoc c (matched shape row e) (sumOver (e′ ∷ es) (matched shape row)))
+      ∙ ap (λ x. ended z s (x % shape .radix) f) (add-assoc c (matched shape row e) (sumOver (e′ ∷ es) (matched shape row)))

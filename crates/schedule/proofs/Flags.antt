@@ -1,5 +1,5 @@
--- A whole cycle flags a row of n cells below q exactly where it is not sound: digit by digit from the highest, the counter of a check row is
--- the sum of v / ρ^s over its cells mod ρ, which is that of the digits s. Assumes nothing.
+-- A whole cycle flags a row of n cells below q exactly where a digit sum from z on is not 0: digit by digit from the highest, the counter of a
+-- check row is the sum of v / ρ^s over its cells mod ρ, which is that of the digits s. Assumes nothing.
 use mathlib.Core.Path.{_≡_, refl, sym, ap, ap₂, fun-ext, _∙_}
 use mathlib.Core.Bool.{Bool, true, false, cond, _&&_, not-eq-not}
 use mathlib.Core.List.{List, map}
@@ -7,20 +7,20 @@ use Prim.Native.Nat.{ℕ, suc, _+_, _-_, _/_, _%_, _^_, _≤_, _<_}
 use native.Mathlib.Nat.{zero-mod, div-eq-of-lt, one-le-mul}
 use native.Mathlib.Omega.{arith}
 use lib.Arith.{comp-comp}
-use lib.Dec.{eqb, ltb, eqb·suc-zero}
+use lib.Dec.{eqb, leb}
 use lib.ListN.{length, getD}
-use borrow.Author.Tests.{eq-eqb, lt-ltb}
+use borrow.Author.Tests.{eq-eqb, ne-eqb, leb-true, leb-false}
 use Rattle.parity.specs.Lists.{joined, sumOver, everyTo}
 use Rattle.parity.specs.Shape.{digit, levels, checks, columns}
 use Rattle.parity.specs.Matrix.{support}
-use Rattle.parity.specs.Codeword.{isCodeword}
 use Rattle.parity.specs.Claims.{Below}
 use Rattle.parity.specs.Questions.{Taken}
 use Rattle.parity.specs.declared.Shape.{Shape}
 use Rattle.parity.proofs.Taken.{limits}
-use Rattle.parity.proofs.ListLaws.{every-passes, everyTo-at, everyTo-passes}
-use Rattle.parity.proofs.CodewordTest.{isBalanced, codeword-test, codeword-passes}
-use Rattle.schedule.specs.Schedule.{full, factors, within, ofDigit, ofCheck, schedule}
+use Rattle.parity.proofs.ListLaws.{everyTo-at, everyTo-passes}
+use Rattle.parity.proofs.CodewordTest.{isBalanced}
+use Rattle.schedule.specs.Schedule.{factors, within, ofDigit, ofCheck, schedule}
+use Rattle.schedule.specs.Coarse.{isBalancedFrom}
 use Rattle.schedule.specs.Line.{Line, lineRun, freshLine}
 use Rattle.schedule.specs.Claims.{FlagClaim}
 use Rattle.schedule.proofs.All.{All, all-turn, all-pairs}
@@ -30,6 +30,7 @@ use Rattle.schedule.proofs.Counting.{answers-count}
 use Rattle.schedule.proofs.Support.{support-below, support-some}
 use Rattle.schedule.proofs.Factors.{factors-some, factors-inputs}
 use Rattle.schedule.proofs.Length.{entries, entries-length}
+use Rattle.schedule.proofs.Balanced.{alike, balancedClaim}
 use Rattle.schedule.proofs.Runs.{lineRun-joined}
 use Rattle.schedule.proofs.Digit.{line, ended, Plain, matched, run-digit}
 
@@ -38,30 +39,25 @@ abbrev pub shares : Shape → List ℕ → ℕ → ℕ → ℕ
 shares shape row ℓ s = sumOver (support shape ℓ) (λ j. getD row j 0 / shape .radix ^ s)
 
 -- the counter at the end of digit s of check row ℓ
-abbrev pub counterAt : Shape → List ℕ → ℕ → ℕ → ℕ
-counterAt shape row ℓ s = cond (eqb s 0) 0 (shares shape row ℓ s % shape .radix)
+abbrev pub counterAt : ℕ → Shape → List ℕ → ℕ → ℕ → ℕ
+counterAt z shape row ℓ s = cond (eqb s z) 0 (shares shape row ℓ s % shape .radix)
 
 -- the line after the i highest digits of check row ℓ, where the flag was f before
-abbrev checkLine : Shape → List ℕ → ℕ → ℕ → ℕ → Line
-checkLine shape row ℓ f i =
-    line (counterAt shape row ℓ (shape .digits - i)) (cond (everyTo i (λ i. isBalanced shape row ℓ (shape .digits - suc i))) f 1)
+abbrev checkLine : ℕ → Shape → List ℕ → ℕ → ℕ → ℕ → Line
+checkLine z shape row ℓ f i =
+    line (counterAt z shape row ℓ (shape .digits - i)) (cond (everyTo i (λ i. isBalanced shape row ℓ (shape .digits - suc i))) f 1)
 
 -- flags one after the other
 both-flags : (a b : Bool) (f : ℕ) → cond b (cond a f 1) 1 ≡ cond (a && b) f 1
 both-flags true b f = refl
 both-flags false b f = cond-same b 1
 
--- the digits are tested from the highest down, and in a codeword's definition from the lowest up
-everyTo-down : (n : ℕ) (p : ℕ → Bool) → everyTo n (λ i. p (n - suc i)) ≡ everyTo n p
-everyTo-down n p =
-    alike (everyTo n (λ i. p (n - suc i))) (everyTo n p)
-    (λ e. everyTo-passes n p (λ i l. rw (comp-comp l) at (everyTo-at n (λ i. p (n - suc i)) e (n - suc i) (omega arith))))
-    (λ e. everyTo-passes n (λ i. p (n - suc i)) (λ i l. everyTo-at n p e (n - suc i) (omega arith)))
-  where
-    alike : (a b : Bool) → (a ≡ true → b ≡ true) → (b ≡ true → a ≡ true) → a ≡ b
-    alike true b h k = sym (h refl)
-    alike false true h k = k refl
-    alike false false h k = refl
+-- the digits are tested from the highest down, and in the definition of balance from z up
+everyTo-down : (n : ℕ) (p q : ℕ → Bool) → ((i : ℕ) → i < n → p i ≡ q (n - suc i)) → everyTo n p ≡ everyTo n q
+everyTo-down n p q same =
+    alike (everyTo n p) (everyTo n q)
+    (λ e. everyTo-passes n q (λ i l. rw (comp-comp l) at (sym (same (n - suc i) (omega arith)) ∙ everyTo-at n p e (n - suc i) (omega arith))))
+    (λ e. everyTo-passes n p (λ i l. same i l ∙ everyTo-at n q e (n - suc i) (omega arith)))
 
 -- v / ρ^s and its remainder, the digit, are congruent
 share-balanced : (shape : Shape) (row : List ℕ) (ℓ s : ℕ) → eqb (shares shape row ℓ s % shape .radix) 0 ≡ isBalanced shape row ℓ s
@@ -69,7 +65,7 @@ unfolding digit
 share-balanced shape row ℓ s = ap (λ x. eqb x 0) (sym (sum-same (shape .radix) (λ j. getD row j 0 / shape .radix ^ s) (support shape ℓ) .rem))
 
 module _
-    (shape : Shape) (t : Taken shape) (row : List ℕ) (sized : length row ≡ columns shape) (below : Below (levels shape) (columns shape) row) where
+    (z : ℕ) (shape : Shape) (t : Taken shape) (row : List ℕ) (sized : length row ≡ columns shape) (below : Below (levels shape) (columns shape) row) where
   -- the match bytes of one ℓ, s and j ..
   cell-matched :
       (ℓ s j : ℕ) → s < shape .digits → j < columns shape
@@ -92,21 +88,21 @@ module _
       )
 
   pub digit-run :
-      (ℓ s f : ℕ) → ℓ < checks shape → s < shape .digits
-      → lineRun shape row (ofDigit full shape ℓ s) (line (counterAt shape row ℓ (suc s)) f)
-      ≡ line (counterAt shape row ℓ s) (cond (isBalanced shape row ℓ s) f 1)
+      (ℓ s f : ℕ) → ℓ < checks shape → z ≤ s → s < shape .digits
+      → lineRun shape row (ofDigit z shape ℓ s) (line (counterAt z shape row ℓ (suc s)) f)
+      ≡ line (counterAt z shape row ℓ s) (cond (isBalanced shape row ℓ s) f 1)
   unfolding ofDigit
-  digit-run ℓ s f h lt =
+  digit-run ℓ s f h le lt =
       let two : 2 ≤ shape .radix = limits shape t .radixLow in
       let above : ℕ = shares shape row ℓ (suc s) in
       let plain : All (Plain s) (entries shape ℓ s) =
       all-pairs (Plain s) (λ j. j < columns shape) _ (within ℓ s) (λ j a l k. record { digit = refl; flags = refl; resets = refl })
       (support shape ℓ) (factors shape s) (support-below shape t ℓ) (factors-inputs shape two s lt) in
-      ap (λ c. lineRun shape row (ofDigit full shape ℓ s) (line (cond c 0 (above % shape .radix)) f)) (eqb·suc-zero s)
-      ∙ run-digit full shape row s above f (entries shape ℓ s) plain
+      ap (λ c. lineRun shape row (ofDigit z shape ℓ s) (line (cond c 0 (above % shape .radix)) f)) (ne-eqb (suc s) z (λ e. omega arith))
+      ∙ run-digit z shape row s above f (entries shape ℓ s) plain
       (rw entries-length (one-le-mul (support-some shape t ℓ h) (factors-some shape two s lt)))
-      ∙ ap (λ x. ended full s (x % shape .radix) f) (entries-matched ℓ s lt)
-      ∙ ap (λ p. line (counterAt shape row ℓ s) (cond p f 1)) (share-balanced shape row ℓ s)
+      ∙ ap (λ x. ended z s (x % shape .radix) f) (entries-matched ℓ s lt)
+      ∙ ap (λ p. line (counterAt z shape row ℓ s) (cond p f 1)) (share-balanced shape row ℓ s)
 
   -- no level has more than b digits; x + x ≡ x says that x is 0
   shares-none : (ℓ : ℕ) → shares shape row ℓ (shape .digits) ≡ 0
@@ -116,59 +112,71 @@ module _
       let none : (j : ℕ) → j < columns shape → f j + f j ≡ f j = λ j l. omega (arith, div-eq-of-lt (below j l)) in
       omega (arith, sum-each f f f (support shape ℓ) (all-turn _ _ none (support shape ℓ) (support-below shape t ℓ)))
 
-  counter-start : (ℓ : ℕ) → counterAt shape row ℓ (shape .digits - 0) ≡ 0
+  counter-start : (ℓ : ℕ) → counterAt z shape row ℓ (shape .digits - 0) ≡ 0
   counter-start ℓ =
       let b : ℕ = shape .digits in
       let first : b - 0 ≡ b = omega arith in
-      ap (counterAt shape row ℓ) first ∙ ap (λ x. cond (eqb b 0) 0 x) (ap (λ x. x % shape .radix) (shares-none ℓ) ∙ zero-mod (shape .radix))
-      ∙ cond-same (eqb b 0) 0
+      ap (counterAt z shape row ℓ) first ∙ ap (λ x. cond (eqb b z) 0 x) (ap (λ x. x % shape .radix) (shares-none ℓ) ∙ zero-mod (shape .radix))
+      ∙ cond-same (eqb b z) 0
+
+  -- .. and at z it has returned to 0
+  counter-end : (ℓ : ℕ) → counterAt z shape row ℓ (shape .digits - (shape .digits - z)) ≡ 0
+  counter-end ℓ = go (leb z (shape .digits)) refl
+    where
+      go : (b : Bool) → leb z (shape .digits) ≡ b → counterAt z shape row ℓ (shape .digits - (shape .digits - z)) ≡ 0
+      go true e =
+          let last : shape .digits - (shape .digits - z) ≡ z = omega (arith, leb-true z (shape .digits) e) in
+          rw last (ap (λ b. cond b 0 (shares shape row ℓ z % shape .radix)) (eq-eqb z z refl))
+      go false e =
+          let none : shape .digits - z ≡ 0 = omega (arith, leb-false z (shape .digits) e) in
+          rw none (counter-start ℓ)
 
   check-step :
-      (ℓ f i : ℕ) → ℓ < checks shape → i < shape .digits
-      → lineRun shape row (ofDigit full shape ℓ (shape .digits - suc i)) (checkLine shape row ℓ f i) ≡ checkLine shape row ℓ f (suc i)
+      (ℓ f i : ℕ) → ℓ < checks shape → i < shape .digits - z
+      → lineRun shape row (ofDigit z shape ℓ (shape .digits - suc i)) (checkLine z shape row ℓ f i) ≡ checkLine z shape row ℓ f (suc i)
   check-step ℓ f i h l =
       let b : ℕ = shape .digits in
       let sound : ℕ → Bool = λ i. isBalanced shape row ℓ (b - suc i) in
       let flag : ℕ = cond (everyTo i sound) f 1 in
       let next : b - i ≡ suc (b - suc i) = omega arith in
-      ap (λ s. lineRun shape row (ofDigit full shape ℓ (b - suc i)) (line (counterAt shape row ℓ s) flag)) next
-      ∙ digit-run ℓ (b - suc i) flag h (omega arith) ∙ ap (line (counterAt shape row ℓ (b - suc i))) (both-flags (everyTo i sound) (sound i) f)
+      ap (λ s. lineRun shape row (ofDigit z shape ℓ (b - suc i)) (line (counterAt z shape row ℓ s) flag)) next
+      ∙ digit-run ℓ (b - suc i) flag h (omega arith) (omega arith) ∙ ap (line (counterAt z shape row ℓ (b - suc i))) (both-flags (everyTo i sound) (sound i) f)
 
   pub check-run :
       (ℓ f : ℕ) → ℓ < checks shape
-      → lineRun shape row (ofCheck full shape ℓ) (line 0 f) ≡ line 0 (cond (everyTo (shape .digits) (isBalanced shape row ℓ)) f 1)
+      → lineRun shape row (ofCheck z shape ℓ) (line 0 f) ≡ line 0 (cond (everyTo (shape .digits - z) (λ i. isBalanced shape row ℓ (z + i))) f 1)
   unfolding ofCheck
   check-run ℓ f h =
       let b : ℕ = shape .digits in
-      let last : b - b ≡ 0 = omega arith in
-      ap (λ c. lineRun shape row (ofCheck full shape ℓ) (line c f)) (sym (counter-start ℓ))
-      ∙ lineRun-joined shape row b (λ i. ofDigit full shape ℓ (b - suc i)) (checkLine shape row ℓ f) (λ i. check-step ℓ f i h)
-      ∙ ap₂ line (ap (counterAt shape row ℓ) last) (ap (λ p. cond p f 1) (everyTo-down b (isBalanced shape row ℓ)))
+      ap (λ c. lineRun shape row (ofCheck z shape ℓ) (line c f)) (sym (counter-start ℓ))
+      ∙ lineRun-joined shape row (b - z) (λ i. ofDigit z shape ℓ (b - suc i)) (checkLine z shape row ℓ f) (λ i. check-step ℓ f i h)
+      ∙ ap₂ line (counter-end ℓ)
+      (ap (λ p. cond p f 1)
+      (everyTo-down (b - z) (λ i. isBalanced shape row ℓ (b - suc i)) (λ i. isBalanced shape row ℓ (z + i))
+      (λ i l. let same : b - suc i ≡ z + (b - z - suc i) = omega arith in ap (isBalanced shape row ℓ) same)))
 
   pub checks-run :
       (n f : ℕ) → n ≤ checks shape
-      → lineRun shape row (joined n (ofCheck full shape)) (line 0 f) ≡ line 0 (cond (everyTo n (λ ℓ. everyTo (shape .digits) (isBalanced shape row ℓ))) f 1)
+      → lineRun shape row (joined n (ofCheck z shape)) (line 0 f)
+      ≡ line 0 (cond (everyTo n (λ ℓ. everyTo (shape .digits - z) (λ i. isBalanced shape row ℓ (z + i)))) f 1)
   checks-run n f h =
-      let sound : ℕ → Bool = λ ℓ. everyTo (shape .digits) (isBalanced shape row ℓ) in
-      lineRun-joined shape row n (ofCheck full shape) (λ ℓ. line 0 (cond (everyTo ℓ sound) f 1))
+      let sound : ℕ → Bool = λ ℓ. everyTo (shape .digits - z) (λ i. isBalanced shape row ℓ (z + i)) in
+      lineRun-joined shape row n (ofCheck z shape) (λ ℓ. line 0 (cond (everyTo ℓ sound) f 1))
       (λ ℓ l. check-run ℓ (cond (everyTo ℓ sound) f 1) (omega arith) ∙ ap (line 0) (both-flags (everyTo ℓ sound) (sound ℓ) f))
 
--- the line after a whole cycle, as the test of a sound row tells it
+-- the line after a whole cycle, as the test of the digit sums tells it
 pub flag-test :
-    (s : Shape) → Taken s → (row : List ℕ) → length row ≡ columns s → Below (levels s) (columns s) row
-    → lineRun s row (schedule full s) freshLine ≡ record { counter = 0; flag = cond (isCodeword s row) 0 1 }
-unfolding schedule isCodeword
-flag-test s t row sized below =
-    simp (
-      eq-eqb (length row) (columns s) sized,
-      every-passes (λ v. ltb v (levels s)) row 0 (λ j h. lt-ltb _ _ (below j (omega arith))),
-    ) (checks-run s t row sized below (checks s) 0 (omega arith))
+    (z : ℕ) (s : Shape) → Taken s → (row : List ℕ) → length row ≡ columns s → Below (levels s) (columns s) row
+    → lineRun s row (schedule z s) freshLine ≡ record { counter = 0; flag = cond (isBalancedFrom z s row) 0 1 }
+unfolding schedule isBalancedFrom
+flag-test z s t row sized below = checks-run z s t row sized below (checks s) 0 (omega arith)
 
 pub flagClaim : FlagClaim
-flagClaim s t row sized below =
-    let e = flag-test s t row sized below in
+flagClaim z s t row sized below =
+    let e = flag-test z s t row sized below in
+    let test = balancedClaim z s row in
     record {
       counter = ap (λ l. l .counter) e;
-      sound = λ c. ap (λ l. l .flag) e ∙ ap (λ b. cond b 0 1) (codeword-passes s row c);
-      unsound = λ n. ap (λ l. l .flag) e ∙ ap (λ b. cond b 0 1) (not-eq-not {b = false} .0 (λ p. n (codeword-test s row p)));
+      balanced = λ h. ap (λ l. l .flag) e ∙ ap (λ b. cond b 0 1) (test .1 h);
+      unbalanced = λ n. ap (λ l. l .flag) e ∙ ap (λ b. cond b 0 1) (not-eq-not {b = false} .0 (λ p. n (test .0 p)));
     }

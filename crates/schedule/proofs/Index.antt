@@ -4,7 +4,7 @@
 use mathlib.Core.Path.{_≡_, refl, ap, _∙_}
 use mathlib.Core.Bool.{Bool, true, false, cond, _&&_}
 use mathlib.Core.List.{List, map}
-use Prim.Native.Nat.{ℕ, suc, _+_, _-_, _*_, _/_, _%_, _≤_, _<_}
+use Prim.Native.Nat.{ℕ, suc, _+_, _-_, _*_, _/_, _%_, _^_, _≤_, _<_}
 use native.Mathlib.Nat.{div-self, div-add-mod', div-lt-iff-lt-mul, mod-lt, mul-le-mul-right, one-le-pow}
 use native.Mathlib.Omega.{arith}
 use lib.Arith.{comp-comp, lt-of-le-ne}
@@ -17,7 +17,7 @@ use Rattle.parity.specs.Matrix.{support}
 use Rattle.parity.specs.Questions.{Taken}
 use Rattle.parity.specs.declared.Shape.{Shape}
 use Rattle.parity.proofs.Taken.{limits}
-use Rattle.schedule.specs.Schedule.{full, Entry, factors, within, ending, ofDigit, ofCheck, schedule}
+use Rattle.schedule.specs.Schedule.{Entry, factors, within, ending, ofDigit, ofCheck, schedule}
 use Rattle.schedule.specs.Index.{IsPlace, supportSize, rank, span, placeIndex, endsAt, entryOf}
 use Rattle.schedule.specs.Claims.{IndexClaim}
 use Rattle.schedule.proofs.Sums.{length-joined, sum-steps, sum-times}
@@ -38,48 +38,49 @@ last-last m w r c h k = go (eqb (suc r) m) (eqb (suc c) w) refl refl
         ne-eqb _ _ (λ (p : suc (r * w + c) ≡ m * w). omega (arith, mul-le-mul-right w beyond))
 
 -- an entry that ends its digit or not
-marked : (ℓ d j a : ℕ) (b : Bool)
-    → cond b (ending full (within ℓ d j a)) (within ℓ d j a)
-    ≡ record { check = ℓ; digit = d; column = j; factor = a; flags = b; resets = b && eqb d 0 }
-marked ℓ d j a true = refl
-marked ℓ d j a false = refl
+marked : (z ℓ d j a : ℕ) (b : Bool)
+    → cond b (ending z (within ℓ d j a)) (within ℓ d j a)
+    ≡ record { check = ℓ; digit = d; column = j; factor = a; flags = b; resets = b && eqb d z }
+marked z ℓ d j a true = refl
+marked z ℓ d j a false = refl
 
 -- the entries of one ℓ, digit by digit from the highest
-abbrev digitLists : Shape → ℕ → ℕ → List Entry
-digitLists s ℓ i = ofDigit full s ℓ (s .digits - suc i)
+abbrev digitLists : ℕ → Shape → ℕ → ℕ → List Entry
+digitLists z s ℓ i = ofDigit z s ℓ (s .digits - suc i)
 
-module _ (s : Shape) (t : Taken s) where
+module _ (z : ℕ) (s : Shape) (t : Taken s) where
   -- ---- how many entries stand before
 
-  checks-before : (ℓ : ℕ) → length (joined ℓ (ofCheck full s)) ≡ (levels s - 1) * sumTo ℓ (supportSize s)
-  unfolding supportSize
-  checks-before ℓ = length-joined ℓ (ofCheck full s) ∙ sum-times ℓ (levels s - 1) (λ i. length (ofCheck full s i)) (supportSize s) (λ i h. check-length s t i)
+  checks-before : (ℓ : ℕ) → length (joined ℓ (ofCheck z s)) ≡ (span s z - 1) * sumTo ℓ (supportSize s)
+  unfolding supportSize span
+  checks-before ℓ =
+      length-joined ℓ (ofCheck z s) ∙ sum-times ℓ (levels s / s .radix ^ z - 1) (λ i. length (ofCheck z s i)) (supportSize s) (λ i h. check-length z s t i)
 
-  digits-before : (ℓ d : ℕ) → d < s .digits → length (joined (s .digits - suc d) (digitLists s ℓ)) ≡ supportSize s ℓ * (span s (suc d) - 1)
+  digits-before : (ℓ d : ℕ) → d < s .digits → length (joined (s .digits - suc d) (digitLists z s ℓ)) ≡ supportSize s ℓ * (span s (suc d) - 1)
   unfolding supportSize span levels
   digits-before ℓ d h =
       let b : ℕ = s .digits in
       let J : ℕ = length (support s ℓ) in
       let two : 2 ≤ s .radix = limits s t .radixLow in
-      let step : (i : ℕ) → i < b - suc d → length (digitLists s ℓ i) + J * span s (b - i) ≡ J * span s (b - suc i) =
-      λ i l. let next : suc (b - suc i) ≡ b - i = omega arith in rw next at (length-step full s t ℓ (b - suc i) (omega arith)) in
+      let step : (i : ℕ) → i < b - suc d → length (digitLists z s ℓ i) + J * span s (b - i) ≡ J * span s (b - suc i) =
+      λ i l. let next : suc (b - suc i) ≡ b - i = omega arith in rw next at (length-step z s t ℓ (b - suc i) (omega arith)) in
       let first : b - 0 ≡ b = omega arith in
       let last : b - (b - suc d) ≡ suc d = omega arith in
       let low : span s (b - 0) ≡ 1 = ap (span s) first ∙ div-self (one-le-pow b (s .radix) (omega arith)) in
       let high : span s (b - (b - suc d)) ≡ suc (span s (suc d) - 1) = ap (span s) last ∙ omega (arith, span-some s two d h) in
       omega (
         arith,
-        length-joined (b - suc d) (digitLists s ℓ),
-        sum-steps (b - suc d) (λ i. length (digitLists s ℓ i)) (λ i. J * span s (b - i)) step,
+        length-joined (b - suc d) (digitLists z s ℓ),
+        sum-steps (b - suc d) (λ i. length (digitLists z s ℓ i)) (λ i. J * span s (b - i)) step,
         ap (λ x. J * x) low,
         ap (λ x. J * x) high,
       )
 
   index-parts :
       (ℓ d j a : ℕ) → d < s .digits
-      → placeIndex s ℓ d j a
-      ≡ length (joined ℓ (ofCheck full s))
-      + (length (joined (s .digits - suc d) (digitLists s ℓ)) + (rank s ℓ j * length (factors s d) + factorRank (s .radix) a))
+      → placeIndex z s ℓ d j a
+      ≡ length (joined ℓ (ofCheck z s))
+      + (length (joined (s .digits - suc d) (digitLists z s ℓ)) + (rank s ℓ j * length (factors s d) + factorRank (s .radix) a))
   unfolding placeIndex
   index-parts ℓ d j a h =
       let own : span s d - span s (suc d) ≡ length (factors s d) = omega (arith, span-step s (limits s t .radixLow) d h) in
@@ -88,7 +89,7 @@ module _ (s : Shape) (t : Taken s) where
   -- ---- each place
 
   digit-stands :
-      (ℓ d j a : ℕ) → IsPlace s ℓ d j a → Stands (ofDigit full s ℓ d) (rank s ℓ j * length (factors s d) + factorRank (s .radix) a) (entryOf s ℓ d j a)
+      (ℓ d j a : ℕ) → IsPlace z s ℓ d j a → Stands (ofDigit z s ℓ d) (rank s ℓ j * length (factors s d) + factorRank (s .radix) a) (entryOf z s ℓ d j a)
   unfolding ofDigit endsAt supportSize
   digit-stands ℓ d j a p =
       let two : 2 ≤ s .radix = limits s t .radixLow in
@@ -105,36 +106,37 @@ module _ (s : Shape) (t : Taken s) where
       ap (eqb (suc (r * w + k))) (entries-length s ℓ d)
       ∙ last-last (length (support s ℓ)) w r k (column .0) (own .0)
       ∙ ap (λ b. eqb (suc r) (length (support s ℓ)) && b) (factor-last s two d (p .digit) a factor) in
-      let all = stands-atLast (ending full) (entries s ℓ d) (r * w + k) (within ℓ d j a) plain in
-      (all .0, λ e. all .1 e ∙ ap (λ b. cond b (ending full (within ℓ d j a)) (within ℓ d j a)) ends ∙ marked ℓ d j a (endsAt s ℓ d j a))
+      let all = stands-atLast (ending z) (entries s ℓ d) (r * w + k) (within ℓ d j a) plain in
+      (all .0, λ e. all .1 e ∙ ap (λ b. cond b (ending z (within ℓ d j a)) (within ℓ d j a)) ends ∙ marked z ℓ d j a (endsAt s ℓ d j a))
 
-  place-stands : (ℓ d j a : ℕ) → IsPlace s ℓ d j a → Stands (schedule full s) (placeIndex s ℓ d j a) (entryOf s ℓ d j a)
+  place-stands : (ℓ d j a : ℕ) → IsPlace z s ℓ d j a → Stands (schedule z s) (placeIndex z s ℓ d j a) (entryOf z s ℓ d j a)
   unfolding schedule ofCheck
   place-stands ℓ d j a p =
       let own : s .digits - suc (s .digits - suc d) ≡ d = comp-comp (p .digit) in
       rw (index-parts ℓ d j a (p .digit))
-      (stands-joined (checks s) (ofCheck full s) ℓ _ (entryOf s ℓ d j a) (p .check)
-      (stands-joined (s .digits) (digitLists s ℓ) (s .digits - suc d) _ (entryOf s ℓ d j a) (omega arith) (rw own (digit-stands ℓ d j a p))))
+      (stands-joined (checks s) (ofCheck z s) ℓ _ (entryOf z s ℓ d j a) (p .check)
+      (stands-joined (s .digits - z) (digitLists z s ℓ) (s .digits - suc d) _ (entryOf z s ℓ d j a) (omega (arith, p .unskipped, p .digit)) (rw own (digit-stands ℓ d j a p))))
 
   -- ---- each index
 
-  index-found : (c : ℕ) → c < length (schedule full s) → (ℓ : ℕ) × (d : ℕ) × (j : ℕ) × (a : ℕ) × IsPlace s ℓ d j a × (placeIndex s ℓ d j a ≡ c)
+  index-found : (c : ℕ) → c < length (schedule z s) → (ℓ : ℕ) × (d : ℕ) × (j : ℕ) × (a : ℕ) × IsPlace z s ℓ d j a × (placeIndex z s ℓ d j a ≡ c)
   unfolding schedule ofCheck
   index-found c h =
       let two : 2 ≤ s .radix = limits s t .radixLow in
-      let (ℓ, c₁, check, l₁, e₁) = joined-part (checks s) (ofCheck full s) c h in
-      let (i, c₂, digit, l₂, e₂) = joined-part (s .digits) (digitLists s ℓ) c₁ l₁ in
+      let (ℓ, c₁, check, l₁, e₁) = joined-part (checks s) (ofCheck z s) c h in
+      let (i, c₂, digit, l₂, e₂) = joined-part (s .digits - z) (digitLists z s ℓ) c₁ l₁ in
       let d : ℕ = s .digits - suc i in
+      let within : i < s .digits = omega arith in
       let lt : d < s .digits = omega arith in
       let w : ℕ = length (factors s d) in
       let some : 0 < w = factors-some s two d lt in
-      let (j, column, held, e₃) = support-part s t ℓ (c₂ / w) (div-lt-iff-lt-mul some .1 (rw (digit-length full s ℓ d) at l₂)) in
+      let (j, column, held, e₃) = support-part s t ℓ (c₂ / w) (div-lt-iff-lt-mul some .1 (rw (digit-length z s ℓ d) at l₂)) in
       let (a, factor, e₄) = factor-part s two d lt (c₂ % w) (mod-lt c₂ some) in
-      let place : IsPlace s ℓ d j a =
-      record { check = check; digit = lt; column = column; held = held; low = factor .low; high = factor .high; undivided = factor .undivided } in
-      let digits : length (joined (s .digits - suc d) (digitLists s ℓ)) ≡ length (joined i (digitLists s ℓ)) =
-      ap (λ n. length (joined n (digitLists s ℓ))) (comp-comp digit) in
+      let place : IsPlace z s ℓ d j a =
+      record { check = check; digit = lt; unskipped = omega arith; column = column; held = held; low = factor .low; high = factor .high; undivided = factor .undivided } in
+      let digits : length (joined (s .digits - suc d) (digitLists z s ℓ)) ≡ length (joined i (digitLists z s ℓ)) =
+      ap (λ n. length (joined n (digitLists z s ℓ))) (comp-comp within) in
       (ℓ, d, j, a, place, omega (arith, index-parts ℓ d j a lt, ap (λ x. x * w) e₃, div-add-mod' c₂ w))
 
-pub indexClaim : (s : Shape) → Taken s → IndexClaim s
-indexClaim s t = record { stands = place-stands s t; found = index-found s t }
+pub indexClaim : (z : ℕ) (s : Shape) → Taken s → IndexClaim z s
+indexClaim z s t = record { stands = place-stands z s t; found = index-found z s t }

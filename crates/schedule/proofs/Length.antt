@@ -1,18 +1,22 @@
--- The schedule has (q − 1) × W entries: over the digits of one ℓ the numbers of factors add up to q − 1. Assumes nothing.
-use mathlib.Core.Path.{_≡_, ap, _∙_}
+-- The schedule has (q / ρ^z − 1) × W entries: over the digits of one ℓ the numbers of factors add up to q / ρ^z − 1. Assumes nothing.
+use mathlib.Core.Path.{_≡_, refl, ap, _∙_}
+use mathlib.Core.Bool.{Bool, true, false}
 use mathlib.Core.List.{List, map}
-use Prim.Native.Nat.{ℕ, suc, _+_, _-_, _*_, _/_, _^_, _<_}
-use native.Mathlib.Nat.{div-self, div-one, pow-zero, one-le-pow}
+use Prim.Native.Nat.{ℕ, suc, _+_, _-_, _*_, _/_, _^_, _≤_, _<_}
+use native.Mathlib.Nat.{div-self, div-lt-iff-lt-mul, one-le-pow, pow-le-pow-right}
 use native.Mathlib.Omega.{arith}
+use lib.Dec.{leb}
 use lib.ListN.{length, length-map}
+use borrow.Author.Tests.{leb-true, leb-false}
 use Rattle.parity.specs.Shape.{levels, checks}
 use Rattle.parity.specs.Matrix.{support, matrixOnes, lookups}
 use Rattle.parity.specs.Questions.{Taken}
 use Rattle.parity.specs.declared.Shape.{Shape}
 use Rattle.parity.proofs.Taken.{limits}
-use Rattle.schedule.specs.Schedule.{Plan, full, Entry, factors, overEach, within, ending, ofDigit, ofCheck, schedule}
+use Rattle.schedule.specs.Schedule.{Entry, factors, overEach, within, ending, ofDigit, ofCheck, schedule}
 use Rattle.schedule.specs.Claims.{LengthClaim}
 use Rattle.schedule.proofs.Sums.{length-joined, length-atLast, length-overEach, sum-steps, sum-times}
+use Rattle.schedule.proofs.Powers.{quotient-some}
 use Rattle.schedule.proofs.Counting.{factors-count}
 
 -- the entries of one ℓ and s, before the last is marked
@@ -23,47 +27,68 @@ pub entries-length : (shape : Shape) (ℓ s : ℕ) → length (entries shape ℓ
 entries-length shape ℓ s =
     length-overEach (support shape ℓ) (λ j. map (within ℓ s j) (factors shape s)) _ (λ j. length-map (factors shape s) (within ℓ s j))
 
-pub digit-length : (plan : Plan) (shape : Shape) (ℓ s : ℕ) → length (ofDigit plan shape ℓ s) ≡ length (support shape ℓ) * length (factors shape s)
+pub digit-length : (z : ℕ) (shape : Shape) (ℓ s : ℕ) → length (ofDigit z shape ℓ s) ≡ length (support shape ℓ) * length (factors shape s)
 unfolding ofDigit
-digit-length plan shape ℓ s = length-atLast (ending plan) (entries shape ℓ s) ∙ entries-length shape ℓ s
+digit-length z shape ℓ s = length-atLast (ending z) (entries shape ℓ s) ∙ entries-length shape ℓ s
 
 pub length-step :
-    (plan : Plan) (shape : Shape) → Taken shape → (ℓ s : ℕ) → s < shape .digits
-    → length (ofDigit plan shape ℓ s) + length (support shape ℓ) * (levels shape / shape .radix ^ suc s)
+    (z : ℕ) (shape : Shape) → Taken shape → (ℓ s : ℕ) → s < shape .digits
+    → length (ofDigit z shape ℓ s) + length (support shape ℓ) * (levels shape / shape .radix ^ suc s)
     ≡ length (support shape ℓ) * (levels shape / shape .radix ^ s)
-length-step plan shape t ℓ s lt =
+length-step z shape t ℓ s lt =
     omega (
       arith,
-      digit-length plan shape ℓ s,
+      digit-length z shape ℓ s,
       ap (λ x. length (support shape ℓ) * x) (factors-count shape (omega (arith, limits shape t .radixLow)) s lt),
     )
 
-module _ (shape : Shape) (t : Taken shape) (ℓ : ℕ) where
-  pub check-length : length (ofCheck full shape ℓ) ≡ (levels shape - 1) * length (support shape ℓ)
+module _ (z : ℕ) (shape : Shape) (t : Taken shape) (ℓ : ℕ) where
+  -- down to digit z ..
+  length-down : z ≤ shape .digits → length (ofCheck z shape ℓ) ≡ (levels shape / shape .radix ^ z - 1) * length (support shape ℓ)
   unfolding ofCheck levels
-  check-length =
+  length-down le =
       let ρ : ℕ = shape .radix in
       let b : ℕ = shape .digits in
       let q : ℕ = ρ ^ b in
       let J : ℕ = length (support shape ℓ) in
-      let some : 0 < q = one-le-pow b ρ (omega (arith, limits shape t .radixLow)) in
-      let next : (i : ℕ) → i < b → suc (b - suc i) ≡ b - i = λ i l. omega arith in
-      let step : (i : ℕ) → i < b → length (ofDigit full shape ℓ (b - suc i)) + J * (q / ρ ^ (b - i)) ≡ J * (q / ρ ^ (b - suc i)) =
-      λ i l. rw (next i l) at (length-step full shape t ℓ (b - suc i) (omega arith)) in
+      let pos : 0 < ρ = omega (arith, limits shape t .radixLow) in
+      let next : (i : ℕ) → i < b - z → suc (b - suc i) ≡ b - i = λ i l. omega arith in
+      let step : (i : ℕ) → i < b - z → length (ofDigit z shape ℓ (b - suc i)) + J * (q / ρ ^ (b - i)) ≡ J * (q / ρ ^ (b - suc i)) =
+      λ i l. rw (next i l) at (length-step z shape t ℓ (b - suc i) (omega arith)) in
       let first : b - 0 ≡ b = omega arith in
-      let last : b - b ≡ 0 = omega arith in
-      let low : q / ρ ^ (b - 0) ≡ 1 = ap (λ d. q / ρ ^ d) first ∙ div-self some in
-      let high : q / ρ ^ (b - b) ≡ suc (q - 1) = ap (λ d. q / ρ ^ d) last ∙ ap (λ x. q / x) (pow-zero ρ) ∙ div-one q ∙ omega arith in
+      let last : b - (b - z) ≡ z = omega arith in
+      let low : q / ρ ^ (b - 0) ≡ 1 = ap (λ d. q / ρ ^ d) first ∙ div-self (one-le-pow b ρ pos) in
+      let high : q / ρ ^ (b - (b - z)) ≡ suc (q / ρ ^ z - 1) = ap (λ d. q / ρ ^ d) last ∙ omega (arith, quotient-some ρ b pos z le) in
       omega (
         arith,
-        length-joined b (λ i. ofDigit full shape ℓ (b - suc i)),
-        sum-steps b (λ i. length (ofDigit full shape ℓ (b - suc i))) (λ i. J * (q / ρ ^ (b - i))) step,
+        length-joined (b - z) (λ i. ofDigit z shape ℓ (b - suc i)),
+        sum-steps (b - z) (λ i. length (ofDigit z shape ℓ (b - suc i))) (λ i. J * (q / ρ ^ (b - i))) step,
         ap (λ x. J * x) low,
         ap (λ x. J * x) high,
       )
 
+  -- .. and beyond the highest there is none
+  length-none : shape .digits < z → length (ofCheck z shape ℓ) ≡ (levels shape / shape .radix ^ z - 1) * length (support shape ℓ)
+  unfolding ofCheck levels
+  length-none lt =
+      let ρ : ℕ = shape .radix in
+      let b : ℕ = shape .digits in
+      let pos : 0 < ρ = omega (arith, limits shape t .radixLow) in
+      let none : b - z ≡ 0 = omega arith in
+      let over : ρ ^ b ≤ ρ ^ z = pow-le-pow-right pos (omega arith) in
+      let one : ρ ^ b / ρ ^ z < 2 = div-lt-iff-lt-mul (one-le-pow z ρ pos) .1 (omega (arith, one-le-pow z ρ pos)) in
+      let nothing : ρ ^ b / ρ ^ z - 1 ≡ 0 = omega arith in
+      rw (none, nothing) (omega arith)
+
+  pub check-length : length (ofCheck z shape ℓ) ≡ (levels shape / shape .radix ^ z - 1) * length (support shape ℓ)
+  check-length = go (leb z (shape .digits)) refl
+    where
+      go : (b : Bool) → leb z (shape .digits) ≡ b → length (ofCheck z shape ℓ) ≡ (levels shape / shape .radix ^ z - 1) * length (support shape ℓ)
+      go true e = length-down (leb-true z (shape .digits) e)
+      go false e = length-none (leb-false z (shape .digits) e)
+
 pub lengthClaim : LengthClaim
 unfolding schedule lookups matrixOnes
-lengthClaim s t =
-    length-joined (checks s) (ofCheck full s)
-    ∙ sum-times (checks s) (levels s - 1) (λ ℓ. length (ofCheck full s ℓ)) (λ ℓ. length (support s ℓ)) (λ ℓ h. check-length s t ℓ)
+lengthClaim z s t =
+    length-joined (checks s) (ofCheck z s)
+    ∙ sum-times (checks s) (levels s / s .radix ^ z - 1) (λ ℓ. length (ofCheck z s ℓ)) (λ ℓ. length (support s ℓ)) (λ ℓ h. check-length z s t ℓ)

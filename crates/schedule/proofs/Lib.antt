@@ -11,6 +11,8 @@ pub mod Stands
 pub mod Chosen
 pub mod Ranks
 pub mod Index
+pub mod Balanced
+pub mod Coarse
 pub mod Runs
 pub mod Digit
 pub mod Flags

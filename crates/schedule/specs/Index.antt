@@ -1,4 +1,4 @@
--- Only serves the code's own contracts: where an entry stands in the schedule of the full plan, in closed form, by which a step tells whether a
+-- Only serves the code's own contracts: where an entry stands in the schedule, in closed form, by which a step tells whether a
 -- record's place is that of its count.
 use mathlib.Core.Path.{_≡_}
 use mathlib.Core.Logic.{_≢_}
@@ -25,9 +25,10 @@ unfoldable pub span : Shape → ℕ → ℕ
 span s d = levels s / s .radix ^ d
 
 -- a place of the schedule: ℓ, d, j and a within their ranges
-pub record IsPlace (s : Shape) (ℓ d j a : ℕ) : Type 0 where
+pub record IsPlace (z : ℕ) (s : Shape) (ℓ d j a : ℕ) : Type 0 where
   pub check : ℓ < checks s
   pub digit : d < s .digits
+  pub unskipped : z ≤ d
   pub column : j < columns s
   pub held : bit ℓ (getD (matrix s) j 0) ≡ 1
   pub low : 1 ≤ a
@@ -35,9 +36,9 @@ pub record IsPlace (s : Shape) (ℓ d j a : ℕ) : Type 0 where
   pub undivided : a % s .radix ≢ 0
 
 -- how many entries stand before the place
-unfoldable pub placeIndex : Shape → ℕ → ℕ → ℕ → ℕ → ℕ
-placeIndex s ℓ d j a =
-    (levels s - 1) * sumTo ℓ (supportSize s)
+unfoldable pub placeIndex : ℕ → Shape → ℕ → ℕ → ℕ → ℕ → ℕ
+placeIndex z s ℓ d j a =
+    (span s z - 1) * sumTo ℓ (supportSize s)
     + supportSize s ℓ * (span s (suc d) - 1)
     + rank s ℓ j * (span s d - span s (suc d))
     + (a - 1 - (a - 1) / s .radix)
@@ -47,13 +48,13 @@ unfoldable pub endsAt : Shape → ℕ → ℕ → ℕ → ℕ → Bool
 endsAt s ℓ d j a = eqb (suc (rank s ℓ j)) (supportSize s ℓ) && eqb (suc a) (span s d)
 
 -- the entry of a place
-abbrev pub entryOf : Shape → ℕ → ℕ → ℕ → ℕ → Entry
-entryOf s ℓ d j a =
+abbrev pub entryOf : ℕ → Shape → ℕ → ℕ → ℕ → ℕ → Entry
+entryOf z s ℓ d j a =
     record {
       check = ℓ;
       digit = d;
       column = j;
       factor = a;
       flags = endsAt s ℓ d j a;
-      resets = endsAt s ℓ d j a && eqb d 0;
+      resets = endsAt s ℓ d j a && eqb d z;
     }

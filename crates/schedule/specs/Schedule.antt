@@ -1,4 +1,5 @@
--- Document 01, "Schedule": the lookups of a detection cycle (the paper's test vectors), in their order.
+-- Document 01, "Schedule": the lookups of a detection cycle (the paper's test vectors), in their order. A cycle skips a number z of low digits
+-- (document 02, Card 2); where z is 0 it is document 01's.
 use mathlib.Core.Bool.{Bool, true, false, cond, not}
 use mathlib.Core.List.{List, [], _∷_, _++_, map}
 use Prim.Native.Nat.{ℕ, suc, _-_, _*_, _/_, _%_, _^_}
@@ -7,18 +8,6 @@ use Rattle.parity.specs.Lists.{tabulate, joined, keep}
 use Rattle.parity.specs.Shape.{levels, checks, columns}
 use Rattle.parity.specs.Matrix.{support}
 use Rattle.parity.specs.declared.Shape.{Shape}
-
--- The plan of a cycle says which digits it looks at. There is one today, which skips none; a coarse cycle will be another.
-pub data Plan : Type 0 where
-  full : Plan
-
--- the lowest digit that a plan looks at
-abbrev pub lowest : Plan → ℕ
-lowest full = 0
-
--- how many digits a plan goes through, from b − 1 down to its lowest
-abbrev pub digitsOf : Plan → Shape → ℕ
-digitsOf full shape = shape .digits
 
 -- One lookup of the schedule: what is fed, and what is done with the match bytes.
 pub record Entry : Type 0 where
@@ -51,22 +40,21 @@ atLast f (x ∷ y ∷ ys) = x ∷ atLast f (y ∷ ys)
 abbrev pub within : ℕ → ℕ → ℕ → ℕ → Entry
 within ℓ s j a = record { check = ℓ; digit = s; column = j; factor = a; flags = false; resets = false }
 
--- the same as the last of its s: it flags, and it resets where s is the plan's lowest, the last of its ℓ
-abbrev pub ending : Plan → Entry → Entry
-ending plan e =
-    record { check = e .check; digit = e .digit; column = e .column; factor = e .factor; flags = true; resets = eqb (e .digit) (lowest plan) }
+-- the same as the last of its s: it flags, and it resets where s is z, the last of its ℓ
+abbrev pub ending : ℕ → Entry → Entry
+ending z e = record { check = e .check; digit = e .digit; column = e .column; factor = e .factor; flags = true; resets = eqb (e .digit) z }
 
 -- the entries of one ℓ and s: each j of J(ℓ) increasing, within it each a
-unfoldable pub ofDigit : Plan → Shape → ℕ → ℕ → List Entry
-ofDigit plan shape ℓ s = atLast (ending plan) (overEach (support shape ℓ) (λ j. map (within ℓ s j) (factors shape s)))
+unfoldable pub ofDigit : ℕ → Shape → ℕ → ℕ → List Entry
+ofDigit z shape ℓ s = atLast (ending z) (overEach (support shape ℓ) (λ j. map (within ℓ s j) (factors shape s)))
 
--- the entries of one ℓ: s from b − 1 down
-unfoldable pub ofCheck : Plan → Shape → ℕ → List Entry
-ofCheck plan shape ℓ = joined (digitsOf plan shape) (λ i. ofDigit plan shape ℓ (shape .digits - suc i))
+-- the entries of one ℓ: s from b − 1 down to z
+unfoldable pub ofCheck : ℕ → Shape → ℕ → List Entry
+ofCheck z shape ℓ = joined (shape .digits - z) (λ i. ofDigit z shape ℓ (shape .digits - suc i))
 
--- the whole schedule: ℓ from 0 up
-unfoldable pub schedule : Plan → Shape → List Entry
-schedule plan shape = joined (checks shape) (ofCheck plan shape)
+-- the whole schedule: ℓ from 0 up; from z = b on there is no entry
+unfoldable pub schedule : ℕ → Shape → List Entry
+schedule z shape = joined (checks shape) (ofCheck z shape)
 
 -- the vector with x in column j and 0 elsewhere
 unfoldable pub unitVector : ℕ → ℕ → ℕ → List ℕ

@@ -1,6 +1,6 @@
 -- The first no to a call: the questions on the shape, which `check_shape` answers, come first, then those on what the call is given.
 -- Assumes nothing.
-use mathlib.Core.Path.{_≡_, refl, sym, _∙_, ap}
+use mathlib.Core.Path.{_≡_, refl, sym, _∙_, ap, ap₂}
 use mathlib.Core.Bool.{Bool, true, false, cond, and-eq-true-iff, true≢false}
 use mathlib.Core.List.{List, [], _∷_, _++_}
 use Prim.Native.Nat.{ℕ, zero, suc, _<_}
@@ -14,8 +14,9 @@ use Rattle.parity.specs.declared.Shape.{Shape}
 use Rattle.parity.proofs.Taken.{first-yes}
 use Rattle.shape.specs.declared.sizes.Sizes.{Sizes}
 use Rattle.shape.specs.declared.sizes.Checked.{Checked}
+use Rattle.shape.specs.declared.sizes.Checked.the-variants as checked
 use Rattle.shape.specs.Answers.{Said, accepted, refused, answering}
-use Rattle.shape.specs.Shapes.{sizesOf, noSizes, checkedSays, sizesIf, shapeSays}
+use Rattle.shape.specs.Shapes.{sizesOf, noSizes, checkedSays, sizesIf, shapeSays, thenSays, TellsOf}
 
 -- ---- one list of questions after another
 
@@ -117,6 +118,54 @@ module _ (qs more : List Question) (s : Shape) where
 
     pub then-sizes : {z : Sizes} → Passes qs s z → firstNo more ≡ 0 → accepted z ≡ sizesIf (firstNo (qs ++ more)) s
     then-sizes {z} p e = says-sizes (qs ++ more) s z (first-rest qs more numbers (p .none) ∙ e) (p .sizes)
+
+-- ---- the same behind an answer
+
+-- what is said behind the sizes, and behind a refusal
+module _ {asked : Checked} {z : Sizes} (e : asked ≡ checked.Taken z) (more : List Question) where
+  pub behind-number : (n : ℕ) → firstNo more ≡ suc n → refused noSizes (suc n) ≡ thenSays asked more
+  behind-number n found = ap (λ m. answering noSizes m z) (sym found) ∙ ap (λ c. thenSays c more) (sym e)
+
+  pub behind-sizes : firstNo more ≡ 0 → accepted z ≡ thenSays asked more
+  behind-sizes none = ap (λ m. answering noSizes m z) (sym none) ∙ ap (λ c. thenSays c more) (sym e)
+
+pub behind-refusal : {asked : Checked} {n : ℕ} → asked ≡ checked.Refused n → (more : List Question) → refused noSizes n ≡ thenSays asked more
+behind-refusal e more = ap (λ c. thenSays c more) (sym e)
+
+-- two lists of questions behind an answer, one after the other
+pub behind-both :
+    (asked next : Checked) (xs ys : List Question) → numbered xs ≡ true → checkedSays next ≡ thenSays asked xs → thenSays next ys ≡ thenSays asked (xs ++ ys)
+behind-both (checked.Taken z) (checked.Taken y) xs ys numbers e =
+    let both = said-value noSizes z (firstNo xs) y e in
+    ap₂ (answering noSizes) (sym (first-rest xs ys numbers (both .0))) (both .1)
+behind-both (checked.Taken z) (checked.Refused n) xs ys numbers e =
+    let both = said-number noSizes z (firstNo xs) n e in
+    e ∙ ap (λ m. answering noSizes m z) (both .0 ∙ sym (first-found xs ys n (both .1) (both .0)))
+behind-both (checked.Refused m) (checked.Taken y) xs ys numbers e = absurd (true≢false (ap (λ a. a .taken) e))
+behind-both (checked.Refused m) (checked.Refused n) xs ys numbers e = e
+
+-- further questions keep what an answer tells of its shape
+pub behind-tells : (s : Shape) (asked next : Checked) (xs : List Question) → checkedSays next ≡ thenSays asked xs → TellsOf s asked → TellsOf s next
+behind-tells s (checked.Taken z) (checked.Taken y) xs e tells = (tells .0, said-value noSizes z (firstNo xs) y e .1 ∙ tells .1)
+behind-tells s (checked.Refused m) (checked.Taken y) xs e tells = absurd (true≢false (ap (λ a. a .taken) e))
+behind-tells s asked (checked.Refused n) xs e tells = tt
+
+-- an answer to questions that begin with those on the shape tells of it ..
+pub answer-tells : (s : Shape) (c : Checked) (numbers : List Question) → checkedSays c ≡ sizesIf (firstNo (shapeQuestions s ++ numbers)) s → TellsOf s c
+unfolding shapeRefusal
+answer-tells s (checked.Taken z) numbers e =
+    let p = passes (shapeQuestions s ++ numbers) s z e in
+    (first-none (shapeQuestions s) numbers refl (p .none) .0, p .sizes)
+answer-tells s (checked.Refused n) numbers e = tt
+
+-- .. and what is said behind it is what all the questions are answered with
+pub answer-then :
+    (qs more : List Question) (s : Shape) (c : Checked) → numbered qs ≡ true → checkedSays c ≡ sizesIf (firstNo qs) s
+    → thenSays c more ≡ sizesIf (firstNo (qs ++ more)) s
+answer-then qs more s (checked.Taken z) numbers e =
+    let p = passes qs s z e in
+    ap₂ (answering noSizes) (sym (first-rest qs more numbers (p .none))) (p .sizes)
+answer-then qs more s (checked.Refused n) numbers e = then-refused qs more s n e
 
 -- of a shape that is taken, the first no is that of the other questions
 pub taken-rest : (s : Shape) → Taken s → (more : List Question) → firstNo (shapeQuestions s ++ more) ≡ firstNo more

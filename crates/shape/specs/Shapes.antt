@@ -1,7 +1,10 @@
--- The answer to the questions on a shape.
+-- The answer to the questions on a shape, and to those behind them.
+use mathlib.Core.Path.{_≡_}
+use mathlib.Core.List.{List}
 use Prim.Native.Nat.{ℕ}
 use Rattle.parity.specs.Shape.{levels, checks, columns}
-use Rattle.parity.specs.Questions.{shapeRefusal}
+use Rattle.parity.specs.Questions as questions
+use Rattle.parity.specs.Questions.{Question, firstNo, shapeRefusal}
 use Rattle.parity.specs.declared.Shape.{Shape}
 use Rattle.shape.specs.declared.sizes.Sizes.{Sizes}
 use Rattle.shape.specs.declared.sizes.Checked.{Checked}
@@ -28,3 +31,13 @@ sizesIf number s = answering noSizes number (sizesOf s)
 -- what the questions on a shape are answered with
 abbrev pub shapeSays : Shape → Said Sizes
 shapeSays s = sizesIf (shapeRefusal s) s
+
+-- Only for the code's own contracts: an answer, and then further questions. A refusal stays; behind sizes the first no of these is told.
+abbrev pub thenSays : Checked → List Question → Said Sizes
+thenSays (Taken sizes) more = answering noSizes (firstNo more) sizes
+thenSays (Refused number) more = refused noSizes number
+
+-- an answer that was given to this shape: where it has sizes, the shape is taken and they are its own
+abbrev pub TellsOf : Shape → Checked → Type 0
+TellsOf s (Taken sizes) = questions.Taken s × (sizes ≡ sizesOf s)
+TellsOf s (Refused number) = Unit {0}

@@ -15,11 +15,11 @@ use Rattle.cycle_run.proofs.run_open.Tie as tie
 abbrev Inv-loop : tie.InvT-loop
 Inv-loop shape cells counters₀ flags₀ totals₀ matches₀ now₀ counters flags totals matches now =
     (mem : Memory)
-    → Going shape (stateOf (withAll cells counters₀ flags₀ totals₀ mem) now₀) matches₀ (now .count)
+    → Going (now₀ .skip) shape (stateOf (withAll cells counters₀ flags₀ totals₀ mem) now₀) matches₀ (now .count)
     (stateOf (withAll cells counters flags totals mem) now) matches
 
 abbrev μ-loop : tie.MeasureT-loop
-μ-loop shape cells counters₀ flags₀ totals₀ matches₀ now₀ counters flags totals matches now = lookups shape - now .count
+μ-loop shape cells counters₀ flags₀ totals₀ matches₀ now₀ counters flags totals matches now = lookups (now₀ .skip) shape - now .count
 
 -- the places of the call, of a turn's begin and of its step, each from one that follows
 abbrev begun : tie.At-loop Inv-loop μ-loop → tie.Start Inv-loop μ-loop
@@ -37,7 +37,7 @@ stepped c = c .before .before .before .before .before .before .before .before .b
 loop-holds : tie.Need-loop-holds Inv-loop μ-loop
 loop-holds c =
     let start = c .before .before .before .before .before in
-    λ mem. going-start _ (start .pre .0 .0) _ _ (start .pre .1 .1) (start .pre .1 .0) (start .pre .0 .1)
+    λ mem. going-start _ _ (start .pre .0 .0) _ _ (start .pre .1 .1) (start .pre .1 .0) (start .pre .0 .2)
 
 is-open-requires : tie.Need-is-open-requires Inv-loop μ-loop
 is-open-requires c κs = search needs
@@ -53,13 +53,13 @@ turn :
     let now = c .step .result .cycle in
     let left = c .step .last .1 .1 .1 in
     (mem : Memory)
-    → Going (args .shape) (stateOf (withAll (args .cells .now) (args .counters .now) (args .flags .now) (args .totals .now) mem) (args .cycle))
+    → Going (args .cycle .skip) (args .shape) (stateOf (withAll (args .cells .now) (args .counters .now) (args .flags .now) (args .totals .now) mem) (args .cycle))
     (args .matches .now) (now .count) (stateOf (withAll (args .cells .now) (left .0) (left .1 .0) (left .1 .1 .0) mem) now) (left .1 .1 .1 .0)
-    × (now .count ≡ suc (loop .loop .now .count)) × (loop .loop .now .count < lookups (args .shape))
+    × (now .count ≡ suc (loop .loop .now .count)) × (loop .loop .now .count < lookups (args .cycle .skip) (args .shape))
 turn c =
     let loop = looped c in
     let start = begun loop in
-    λ mem. going-step (start .args .shape) (start .pre .0 .0) _ _ (start .pre .1 .1) _ _ _ (loop .loop .inv mem)
+    λ mem. going-step (start .args .cycle .skip) (start .args .shape) (start .pre .0 .0) _ _ (start .pre .1 .1) _ _ _ (loop .loop .inv mem)
     (sym (opened c .before .is-open .ensures) ∙ opened c .if1 .taken) _ (c .step .ensures mem)
 
 loop-less : tie.Need-loop-less Inv-loop μ-loop
@@ -85,8 +85,8 @@ unfolding lastMatches
 returns c =
     let loop = c .before .before in
     let start = begun loop in
-    λ mem. going-end (start .args .shape) (start .pre .0 .0) _ _ (start .pre .1 .1) _ _ _ (loop .loop .inv mem)
-    (sym (c .before .is-open .ensures) ∙ c .if1 .left)
+    λ mem. going-end (start .args .cycle .skip) (start .args .shape) (start .pre .0 .0) _ _ (start .pre .1 .1) _ _ _ (loop .loop .inv mem)
+    (start .pre .0 .1) (sym (c .before .is-open .ensures) ∙ c .if1 .left)
 
 pub run-open-spec : {M : Type 1} → statement M
 run-open-spec =

@@ -4,8 +4,8 @@ use Rattle.ffi_words.proofs.cycle_of.Statement.{statement}
 use Rattle.ffi_words.proofs.cycle_of.Tie as tie
 
 -- from the end, the place after the call of `phase_of`
-abbrev called : tie.After-t21 → tie.After-phase-of
-called c = c .before .before .before .before .before
+abbrev called : tie.After-t24 → tie.After-phase-of
+called c = c .before .before .before .before .before .before
 
 element-copy-out-phase-of : tie.Need-element-copy-out-phase-of
 element-copy-out-phase-of c = search needs
@@ -28,6 +28,9 @@ element-copy-out-t17 c = search needs
 element-copy-out-t21 : tie.Need-element-copy-out-t21
 element-copy-out-t21 c = search needs
 
+element-copy-out-t24 : tie.Need-element-copy-out-t24
+element-copy-out-t24 c = search needs
+
 returns : tie.Need-returns
 returns c = rw (called c .phase-of .ensures)
 
@@ -42,4 +45,5 @@ cycle-of-spec =
     element-copy-out-t14
     element-copy-out-t17
     element-copy-out-t21
+    element-copy-out-t24
     returns)

@@ -41,7 +41,7 @@ module _ (c : tie.Start) where
   next : isNext shape cycle ≡ true
   next = c .pre .1 .0
 
-  place : IsPlace shape (cycle .place .check) (cycle .place .digit) (cycle .place .column) (cycle .place .factor)
+  place : IsPlace (cycle .skip) shape (cycle .place .check) (cycle .place .digit) (cycle .place .column) (cycle .place .factor)
   place = next-place shape taken cycle next .0
 
   -- ---- the sizes
@@ -50,7 +50,7 @@ module _ (c : tie.Start) where
   checks-high = redundancyClaim shape taken .high
 
   count-high : cycle .count < 261120
-  count-high = omega (arith, next-record shape taken cycle next .0, lookups-high shape taken)
+  count-high = omega (arith, next-record shape taken cycle next .0, lookups-high (cycle .skip) shape taken)
 
   factor-high : cycle .place .factor < 256
   factor-high = omega (arith, place .high, span-high shape taken (cycle .place .digit))
@@ -85,12 +85,13 @@ module _ (c : tie.Start) where
   phase = next-phase shape taken cycle next
 
   opened :
-      {r ℓ e d i j b a : ℕ} → r ≡ ℓ → e ≡ d → i ≡ j → b ≡ a → cycleAt shape (suc (cycle .count)) ≡ openAt (placeAt ℓ d j a) (suc (cycle .count))
-      → _≡_ {A = Cycle} (record { phase = cycle .phase; place = placeAt r e i b; count = cycle .count + 1 })
-      (cycleAt shape (suc (cycle .count)))
+      {r ℓ e d i j b a : ℕ} → r ≡ ℓ → e ≡ d → i ≡ j → b ≡ a
+      → cycleAt (cycle .skip) shape (suc (cycle .count)) ≡ openAt (cycle .skip) (placeAt ℓ d j a) (suc (cycle .count))
+      → _≡_ {A = Cycle} (record { phase = cycle .phase; place = placeAt r e i b; count = cycle .count + 1; skip = cycle .skip })
+      (cycleAt (cycle .skip) shape (suc (cycle .count)))
   opened check digit column factor law =
       (λ i.
-      record { phase = phase i; place = placeAt (check i) (digit i) (column i) (factor i); count = add-one (cycle .count) i })
+      record { phase = phase i; place = placeAt (check i) (digit i) (column i) (factor i); count = add-one (cycle .count) i; skip = cycle .skip })
       ∙ sym law
 
 -- the tests that a return has left behind: there is no factor more in the column, and no column more in the digit
@@ -185,7 +186,7 @@ returns-4 c =
     let s = start x in
     let check = add-one (cycle s .place .check) in
     opened s check refl (c .next-held3 .ensures ∙ ap₂ (λ cs ℓ. heldFrom cs ℓ 0) (s .pre .0 .2) check) refl
-    (follow-check (shape s) (taken s) (cycle s) (next s) (past x) (last y) (omega (arith, c .before .before .before .before .if3 .left))
+    (follow-check (shape s) (taken s) (cycle s) (next s) (past x) (last y) (omega (arith, c .before .before .before .before .if3 .left, place s .unskipped))
     (omega (arith, c .before .before .if4 .taken, all-checks s)))
 
 complete-requires : tie.Need-complete-requires
@@ -196,8 +197,8 @@ returns-5 c =
     let y = c .before .before .before .before in
     let x = factors-done y in
     let s = start x in
-    c .complete .ensures ∙ ap completeAt (add-one (cycle s .count))
-    ∙ sym (follow-end (shape s) (taken s) (cycle s) (next s) (past x) (last y) (omega (arith, c .before .before .before .if3 .left))
+    c .complete .ensures ∙ ap (completeAt (cycle s .skip)) (add-one (cycle s .count))
+    ∙ sym (follow-end (shape s) (taken s) (cycle s) (next s) (past x) (last y) (omega (arith, c .before .before .before .if3 .left, place s .unskipped))
     (omega (arith, c .before .if4 .left, all-checks s)))
 
 pub advance-spec : {M : Type 1} → statement M

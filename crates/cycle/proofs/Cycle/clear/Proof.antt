@@ -1,12 +1,13 @@
--- `cycle::Cycle::clear` meets its contract: `check_memory` asks, and all buffers are filled with 0. Assumes nothing.
+-- `cycle::Cycle::clear` meets its contract: `check_shape` and `check_memory` ask, and all buffers are filled with 0. Assumes nothing.
 use mathlib.Core.Path.{_≡_, refl, sym, ap, _∙_}
 use mathlib.Core.List.{List, []}
 use Prim.Native.Nat.{ℕ}
 use lib.ListN.{replicate}
 use borrow.Author.Needs.{needs}
-use Rattle.parity.specs.Questions.{Question, firstNo}
-use Rattle.shape.proofs.Refusals.{told, fails, passes}
-use Rattle.array_memory.specs.Memory.{Memory, withAll, noMemory, Sized}
+use Rattle.parity.specs.Questions.{Question, firstNo, shapeQuestions, shapeRefusal}
+use Rattle.shape.specs.Shapes.{checkedSays, sizesIf}
+use Rattle.shape.proofs.Refusals.{told, fails, passes, answer-tells, answer-then}
+use Rattle.array_memory.specs.Memory.{Memory, withAll, noMemory, memoryQuestions, Sized}
 use Rattle.array_memory.proofs.Asked.{memory-taken}
 use Rattle.cycle.specs.Record.{idle}
 use Rattle.cycle.specs.Calls.{zeroRows, cleared, clearQuestions, clearCall}
@@ -23,7 +24,7 @@ questions c = clearQuestions (c .args .shape) (lent c noMemory)
 
 -- the call's place, from those where the questions are asked and where they are passed
 abbrev entry : tie.After-check-memory → tie.Start
-entry c = c .before .before .before .before .before
+entry c = c .before .before .before .before .before .before
 
 abbrev begun : tie.After-enum-told → tie.Start
 begun c = entry (c .before .before)
@@ -35,15 +36,29 @@ reset c = c .before .before .before .before .before .before .before
 abbrev filled : tie.After-reset-rows → tie.After-fill
 filled c = c .before .before .before .before .before .before
 
+-- what is answered to all of them
+answered : (c : tie.After-check-memory) → checkedSays (c .check-memory .result) ≡ sizesIf (firstNo (questions (entry c))) (entry c .args .shape)
+unfolding shapeRefusal
+answered c =
+    let start = entry c in
+    let s = start .args .shape in
+    let shape = c .before in
+    c .check-memory .ensures
+    ∙ answer-then (shapeQuestions s) (memoryQuestions s (lent start noMemory)) s (shape .check-shape .result) refl (shape .check-shape .ensures)
+
 module _ (c : tie.After-enum-told) where
   none : firstNo (questions (begun c)) ≡ 0
-  none = passes (questions (begun c)) (begun c .args .shape) _ (told (c .before .before .check-memory .ensures) (c .enum-told .given .1)) .none
+  none = passes (questions (begun c)) (begun c .args .shape) _ (told (answered (c .before .before)) (c .enum-told .given .1)) .none
 
   sized : Sized (begun c .args .shape) (lent (begun c) noMemory)
   sized = memory-taken (begun c .args .shape) (lent (begun c) noMemory) [] none .0 .sized
 
+check-shape-requires : tie.Need-check-shape-requires
+check-shape-requires c κs = search needs
+
 check-memory-requires : tie.Need-check-memory-requires
-check-memory-requires c κs = search needs
+unfolding shapeRefusal
+check-memory-requires c κs = answer-tells _ (c .check-shape .result) [] (c .check-shape .ensures)
 
 enum-known-number : tie.Need-enum-known-number
 enum-known-number c = search needs
@@ -70,7 +85,7 @@ returns c =
     let start = entry asked in
     let number = c .before .before .number .given in
     λ mem. gives-refusal (questions start) [] (lent start mem) (start .args .self) _ _ (number .0 .0)
-    (fails (questions start) (start .args .shape) (number .0 .0) (told (asked .check-memory .ensures) (number .1))) (c .refused .ensures)
+    (fails (questions start) (start .args .shape) (number .0 .0) (told (answered asked) (number .1))) (c .refused .ensures)
 
 same-length : tie.Need-same-length
 same-length c = search needs
@@ -104,6 +119,7 @@ pub clear-spec : {M : Type 1} → statement M
 clear-spec =
     tie.close
     (tie.spec
+    check-shape-requires
     check-memory-requires
     enum-known-number
     refused-requires

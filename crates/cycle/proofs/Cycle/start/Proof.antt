@@ -1,16 +1,17 @@
--- `cycle::Cycle::start` meets its contract: `check_rows` asks, counters, flags and totals are filled with 0, and the record is that of the first lookup.
--- Assumes nothing.
-use mathlib.Core.Path.{refl, sym, ap, _∙_}
-use mathlib.Core.List.{List, []}
-use Prim.Native.Nat.{ℕ}
+-- `cycle::Cycle::start` meets its contract: `check_skip` and `check_rows` ask, counters, flags and totals are filled with 0, and the record is that
+-- of the first lookup. Assumes nothing.
+use mathlib.Core.Path.{_≡_, refl, sym, ap, _∙_}
+use mathlib.Core.List.{List, [], _++_}
+use Prim.Native.Nat.{ℕ, _<_}
 use lib.ListN.{replicate}
 use borrow.Author.Needs.{needs}
-use Rattle.parity.specs.Questions.{Question}
-use Rattle.shape.proofs.Refusals.{told, fails, Passes, passes}
-use Rattle.array_memory.specs.Memory.{Memory, withRows, noMemory}
-use Rattle.array_memory.proofs.Asked.{RowsTaken, rows-taken}
+use Rattle.parity.specs.Questions.{Question, firstNo, shapeQuestions}
+use Rattle.shape.specs.Shapes.{checkedSays, sizesIf}
+use Rattle.shape.proofs.Refusals.{told, fails, Passes, passes, answer-tells, answer-then}
+use Rattle.array_memory.specs.Memory.{Memory, withRows, noMemory, rowsQuestions}
+use Rattle.array_memory.proofs.Asked.{skip-taken, RowsTaken, rows-taken}
 use Rattle.cycle.specs.Record.{cycleAt}
-use Rattle.cycle.specs.Calls.{zeroRows, startQuestions, started, startCall}
+use Rattle.cycle.specs.Calls.{zeroRows, startArguments, startQuestions, started, startCall}
 use Rattle.cycle.proofs.MatrixPart.{Part, columns-part}
 use Rattle.cycle.proofs.Given.{gives-refusal, gives-done}
 use Rattle.cycle.proofs.Cycle.start.Statement.{statement}
@@ -21,11 +22,11 @@ abbrev lent : tie.Start → Memory → Memory
 lent c mem = withRows (c .args .counters .now) (c .args .flags .now) (c .args .totals .now) mem
 
 abbrev questions : tie.Start → List Question
-questions c = startQuestions (c .args .shape) (lent c noMemory)
+questions c = startQuestions (c .args .shape) (lent c noMemory) (c .args .skip)
 
 -- the places of the call, of the sizes and of the buffers' reset, each from one that follows
 abbrev entry : tie.After-check-rows → tie.Start
-entry c = c .before .before .before .before
+entry c = c .before .before .before .before .before
 
 abbrev begun : tie.After-sizes → tie.Start
 begun c = entry (c .before .before)
@@ -36,12 +37,27 @@ filled c = c .before .before .before .before .before .before .before
 abbrev sized : tie.After-reset-rows → tie.After-sizes
 sized c = c .before .before .before .before .before
 
+-- what is answered to all the questions
+answered : (c : tie.After-check-rows) → checkedSays (c .check-rows .result) ≡ sizesIf (firstNo (questions (entry c))) (entry c .args .shape)
+answered c =
+    let start = entry c in
+    let s = start .args .shape in
+    let skip = c .before in
+    c .check-rows .ensures
+    ∙ answer-then (shapeQuestions s ++ startArguments s (start .args .skip)) (rowsQuestions s (lent start noMemory)) s (skip .check-skip .result) refl
+    (skip .check-skip .ensures)
+
 module _ (c : tie.After-sizes) where
   asked : Passes (questions (begun c)) (begun c .args .shape) (c .sizes .given .0 .0)
-  asked = passes _ _ _ (told (c .before .before .check-rows .ensures) (c .sizes .given .1))
+  asked = passes _ _ _ (told (answered (c .before .before)) (c .sizes .given .1))
+
+  parts :
+      (begun c .args .skip < begun c .args .shape .digits)
+      × (firstNo (shapeQuestions (begun c .args .shape) ++ rowsQuestions (begun c .args .shape) (lent (begun c) noMemory)) ≡ 0)
+  parts = skip-taken (begun c .args .shape) (begun c .args .skip) (rowsQuestions (begun c .args .shape) (lent (begun c) noMemory)) (asked .none)
 
   given : RowsTaken (begun c .args .shape) (lent (begun c) noMemory)
-  given = rows-taken (begun c .args .shape) (lent (begun c) noMemory) [] (asked .none) .0
+  given = rows-taken (begun c .args .shape) (lent (begun c) noMemory) [] (parts .1) .0
 
 matrix-lent :
     (c : tie.After-matrix-of)
@@ -51,8 +67,13 @@ matrix-lent c =
     let sizes = sized (filled c) in
     columns-part _ _ _ (given sizes .taken) (ap (λ z. z .columns) (asked sizes .sizes)) (c .matrix-of .ensures)
 
+check-skip-requires : tie.Need-check-skip-requires
+check-skip-requires c κs = search needs
+
 check-rows-requires : tie.Need-check-rows-requires
-check-rows-requires c κs = search needs
+check-rows-requires c κs =
+    let args = c .before .before .before .before .args in
+    answer-tells (args .shape) (c .check-skip .result) (startArguments (args .shape) (args .skip)) (c .check-skip .ensures)
 
 enum-known-number : tie.Need-enum-known-number
 enum-known-number c = search needs
@@ -78,7 +99,9 @@ slice-aggregate-first : tie.Need-slice-aggregate-first
 slice-aggregate-first c = matrix-lent (c .before) .sized
 
 first-requires : tie.Need-first-requires
-first-requires c κs = (given (sized (filled (c .before))) .taken, matrix-lent (c .before) .holds)
+first-requires c κs =
+    let sizes = sized (filled (c .before)) in
+    (given sizes .taken, parts sizes .0, matrix-lent (c .before) .holds)
 
 done-requires : tie.Need-done-requires
 done-requires c κs = search needs
@@ -90,7 +113,7 @@ returns c =
     let start = entry asked in
     let number = c .before .before .number .given in
     λ mem. gives-refusal (questions start) [] (lent start mem) (start .args .self) _ _ (number .0 .0)
-    (fails (questions start) (start .args .shape) (number .0 .0) (told (asked .check-rows .ensures) (number .1))) (c .refused .ensures)
+    (fails (questions start) (start .args .shape) (number .0 .0) (told (answered asked) (number .1))) (c .refused .ensures)
 
 same-length : tie.Need-same-length
 same-length c = search needs
@@ -112,13 +135,14 @@ returns-2 c =
     let counters = reset .reset-rows .ensures .0 ∙ ap zeros (z .counters) in
     let flags = reset .reset-rows .ensures .1 .0 ∙ ap zeros (z .flags) in
     let totals = reset .reset-rows .ensures .1 .1 ∙ ap zeros (z .totals) in
-    λ mem. gives-done (questions start) [] (lent start mem) (start .args .self) _ [] [] _ _ (cycleAt (start .args .shape) 0) _ (asked sizes .none)
+    λ mem. gives-done (questions start) [] (lent start mem) (start .args .self) _ [] [] _ _ (cycleAt (start .args .skip) (start .args .shape) 0) _ (asked sizes .none)
     (c .done .ensures) refl (sym (λ i. withRows (counters i) (flags i) (totals i) mem)) (sym (c .before .first .ensures))
 
 pub start-spec : {M : Type 1} → statement M
 start-spec =
     tie.close
     (tie.spec
+    check-skip-requires
     check-rows-requires
     enum-known-number
     refused-requires

@@ -1,8 +1,10 @@
--- `cycle::Cycle::step` meets its contract: `check_matches` asks up to 6, and `step_lent` does the rest. Assumes nothing.
+-- `cycle::Cycle::step` meets its contract: `check_shape` and `check_matches` ask up to 6, and `step_lent` does the rest. Assumes nothing.
+use mathlib.Core.Path.{_≡_, refl, _∙_}
 use mathlib.Core.List.{List, [], _∷_}
 use borrow.Author.Needs.{needs}
-use Rattle.parity.specs.Questions.{Question, callQuestions}
-use Rattle.shape.proofs.Refusals.{told, fails, Passes, passes, first-found}
+use Rattle.parity.specs.Questions.{Question, firstNo, shapeQuestions, shapeRefusal, callQuestions}
+use Rattle.shape.specs.Shapes.{checkedSays, sizesIf}
+use Rattle.shape.proofs.Refusals.{told, fails, Passes, passes, first-found, answer-tells, answer-then}
 use Rattle.array_memory.specs.Memory.{Memory, withAll, noMemory}
 use Rattle.cycle.specs.Record.{cycleQuestion}
 use Rattle.cycle.specs.Calls.{lentQuestions, stepCall}
@@ -23,13 +25,28 @@ more c = cycleQuestion (c .args .shape) (c .args .self) ∷ []
 
 -- the call's place, from that of its questions
 abbrev begun : tie.After-check-matches → tie.Start
-begun c = c .before .before .before .before .before .before
+begun c = c .before .before .before .before .before .before .before
+
+-- what is answered up to 6
+answered : (c : tie.After-check-matches) → checkedSays (c .check-matches .result) ≡ sizesIf (firstNo (first (begun c))) (begun c .args .shape)
+unfolding shapeRefusal
+answered c =
+    let start = begun c in
+    let s = start .args .shape in
+    let shape = c .before in
+    c .check-matches .ensures
+    ∙ answer-then (shapeQuestions s) (lentQuestions s (lent start noMemory) (start .args .matches .now)) s (shape .check-shape .result) refl
+    (shape .check-shape .ensures)
 
 asked : (c : tie.After-sizes) → Passes (first (begun (c .before .before))) (begun (c .before .before) .args .shape) (c .sizes .given .0 .0)
-asked c = passes _ _ _ (told (c .before .before .check-matches .ensures) (c .sizes .given .1))
+asked c = passes _ _ _ (told (answered (c .before .before)) (c .sizes .given .1))
+
+check-shape-requires : tie.Need-check-shape-requires
+check-shape-requires c κs = search needs
 
 check-matches-requires : tie.Need-check-matches-requires
-check-matches-requires c κs = search needs
+unfolding shapeRefusal
+check-matches-requires c κs = answer-tells _ (c .check-shape .result) [] (c .check-shape .ensures)
 
 enum-known-number : tie.Need-enum-known-number
 enum-known-number c = search needs
@@ -51,7 +68,7 @@ returns c =
     let start = begun asked in
     let args = start .args in
     let number = known .number .given in
-    let no = fails (first start) (args .shape) (number .0 .0) (told (asked .check-matches .ensures) (number .1)) in
+    let no = fails (first start) (args .shape) (number .0 .0) (told (answered asked) (number .1)) in
     λ mem. gives-refusal _ (args .matches .now) (lent start mem) (args .self) _ _ (number .0 .0)
     (first-found (first start) (more start) (number .0 .0) (no .1) (no .0), no .1) (c .refused .ensures)
 
@@ -78,6 +95,7 @@ pub step-spec : {M : Type 1} → statement M
 step-spec =
     tie.close
     (tie.spec
+    check-shape-requires
     check-matches-requires
     enum-known-number
     refused-requires

@@ -149,7 +149,7 @@ returns-2 c =
     let start = begun (made (standing .before .before)) in
     let args = start .args in
     let own : firstNo (more start) ≡ 0 = rw (place-found standing .0) refl in
-    λ mem. gives-done _ (args .matches .now) (lent start mem) (args .self) _ _ _ _ _ (cycleAt (args .shape) (suc (args .self .count))) _
+    λ mem. gives-done _ (args .matches .now) (lent start mem) (args .self) _ _ _ _ _ (cycleAt (args .self .skip) (args .shape) (suc (args .self .count))) _
     (first-rest (first start) (more start) refl (start .pre .0) ∙ own) (c .done .ensures)
     (counted .look-and-count .ensures .0 (withRows (args .counters .now) (args .flags .now) (args .totals .now) mem)) (counted .look-and-count .ensures .1 mem)
     (sym (advanced .advance .ensures))

@@ -13,7 +13,7 @@ use Rattle.parity.proofs.Taken.{limits}
 use Rattle.parity.proofs.ListLaws.{length-tabulate}
 use Rattle.array_memory.specs.Blocks.{blocksOf}
 use Rattle.array_memory.specs.Memory.{Memory, withCells, withRows, withAll, noMemory, cellCount}
-use Rattle.cycle.specs.Record.{entryAt}
+use Rattle.cycle.specs.Record.{nextEntry}
 use Rattle.cycle.specs.Calls.{State, stateOf, stepMatches, steppedMemory}
 use Rattle.cycle.proofs.Places.{next-place}
 use Rattle.cycle.proofs.StepPasses.{next-proper, next-rank, next-ends, next-resets, step-matches, step-matches-low}
@@ -77,18 +77,19 @@ module _ (mem : Memory) (c : tie.After-count-rows) where
 
 -- what the entry does after counting, by whether it ends its digit
 module _ (c : tie.After-ends-digit) (b : Bool) (e : c .ends-digit .result ≡ b) where
-  flags-after : entryAt (begun c .args .shape) (begun c .args .cycle .count) .flags ≡ b
+  flags-after : nextEntry (begun c .args .shape) (begun c .args .cycle) .flags ≡ b
   flags-after =
       let start = begun c in
       next-ends (start .args .shape) (start .pre .0 .0) (start .args .cycle) (start .pre .0 .2 .0) (start .args .standing) (start .pre .0 .2 .1)
       ∙ sym (c .ends-digit .ensures)
       ∙ e
 
-  resets-after : entryAt (begun c .args .shape) (begun c .args .cycle .count) .resets ≡ b && eqb (begun c .args .cycle .place .digit) 0
+  resets-after :
+      nextEntry (begun c .args .shape) (begun c .args .cycle) .resets ≡ b && eqb (begun c .args .cycle .place .digit) (begun c .args .cycle .skip)
   resets-after =
       let start = begun c in
       next-resets (start .args .shape) (start .pre .0 .0) (start .args .cycle) (start .pre .0 .2 .0)
-      ∙ ap (λ b. b && eqb (start .args .cycle .place .digit) 0) flags-after
+      ∙ ap (λ b. b && eqb (start .args .cycle .place .digit) (start .args .cycle .skip)) flags-after
 
 flags-made :
     (mem : Memory) (c : tie.After-flag-rows) → tested c .ends-digit .result ≡ true
@@ -206,8 +207,8 @@ returns-2 c =
     let test = tested flagged in
     let start = begun test in
     let ends : test .ends-digit .result ≡ true = not-false (test .ends-digit .result) (flagged .before .before .before .if1 .left) in
-    let more : start .args .cycle .place .digit ≡ 0 → ⊥ = λ e. omega arith in
-    let resets = resets-after test true ends ∙ ne-eqb (start .args .cycle .place .digit) 0 more in (
+    let more : start .args .cycle .place .digit ≡ start .args .cycle .skip → ⊥ = λ e. omega arith in
+    let resets = resets-after test true ends ∙ ne-eqb (start .args .cycle .place .digit) (start .args .cycle .skip) more in (
       λ mem. sym (matches-made mem (looked (counted test))),
       λ mem. stepped-as start mem (counters-made mem (counted test) ∙ counters-kept (start .args .shape) (stateAt start mem) resets)
           (flags-made mem flagged ends) (totals-made mem counted-anew ends),
@@ -235,7 +236,9 @@ returns-3 c =
     let test = tested flagged in
     let start = begun test in
     let ends : test .ends-digit .result ≡ true = not-false (test .ends-digit .result) (flagged .before .before .before .if1 .left) in
-    let resets = resets-after test true ends ∙ eq-eqb (start .args .cycle .place .digit) 0 (omega arith) in (
+    let place = next-place (start .args .shape) (start .pre .0 .0) (start .args .cycle) (start .pre .0 .2 .0) in
+    let lowest : start .args .cycle .place .digit ≡ start .args .cycle .skip = omega (arith, place .0 .unskipped) in
+    let resets = resets-after test true ends ∙ eq-eqb (start .args .cycle .place .digit) (start .args .cycle .skip) lowest in (
       λ mem. sym (matches-made mem (looked (counted test))),
       λ mem. stepped-as start mem
           (counters-reset (start .args .shape) (stateAt start mem) resets (counters-made mem (counted test)) (c .before .before .fill .ensures))

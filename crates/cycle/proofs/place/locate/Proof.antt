@@ -4,7 +4,7 @@ use mathlib.Core.Path.{_≡_, refl, sym, _∙_, ap}
 use mathlib.Core.Logic.{_≢_}
 use mathlib.Core.Bool.{Bool, true, false, cond, not, _&&_, and-eq-true-iff, false≢true}
 use mathlib.Core.List.{List}
-use Prim.Native.Nat.{ℕ, suc, _+_, _-_, _*_, _/_, _%_, _≤_, _<_}
+use Prim.Native.Nat.{ℕ, suc, _+_, _-_, _*_, _/_, _%_, _^_, _≤_, _<_}
 use native.Mathlib.Nat.{one-mul}
 use native.Mathlib.Omega.{arith}
 use lib.Dec.{eqb, leb, ltb}
@@ -12,7 +12,7 @@ use lib.ListN.{length, getD, take, length-take}
 use lib.Pow.{pow-pos}
 use borrow.Author.Needs.{needs}
 use borrow.Author.Tests.{leb-true, ltb-true, eqb-false, le-leb, lt-ltb, ne-eqb, not-true, not-false, leb-false}
-use Rattle.parity.specs.Shape.{levels, checks, columns}
+use Rattle.parity.specs.Shape.{checks, columns}
 use Rattle.parity.specs.Matrix.{bit, matrix, support, lookups}
 use Rattle.parity.specs.Claims.{longestShape}
 use Rattle.parity.specs.Questions.{Taken}
@@ -33,18 +33,18 @@ use Rattle.cycle.specs.declared.place.Standing.{Standing}
 use Rattle.cycle.specs.declared.place.Located.the-variants.{At, Elsewhere}
 use Rattle.cycle_place.proofs.CheckRows.{places-high, rows-high, bit-tested}
 use Rattle.cycle.proofs.CycleRecord.{next-record}
-use Rattle.cycle.proofs.Spans.{span-first, span-high, span-times, span-power, span-less}
+use Rattle.cycle.proofs.Spans.{span-high, span-times, span-power, span-down, span-less}
 use Rattle.cycle.proofs.Places.{AtPlace, next-phase, next-place, place-next}
 use Rattle.cycle.proofs.place.locate.Statement.{statement}
 use Rattle.cycle.proofs.place.locate.Tie as tie
 
 -- the index of a place as the code computes it
 index-as :
-    (s : Shape) (ℓ d j a r : ℕ) {q n : ℕ} {v : Survey}
+    (z : ℕ) (s : Shape) (ℓ d j a r : ℕ) {q n : ℕ} {v : Survey}
     → r ≡ (q - 1) * v .before + v .size * (n - 1) + v .rank * (n * s .radix - n) + (a - 1 - (a - 1) / s .radix)
-    → q ≡ levels s → n ≡ span s (suc d) → n * s .radix ≡ span s d → v ≡ surveyOf (matrix s) ℓ j → r ≡ placeIndex s ℓ d j a
+    → q ≡ span s z → n ≡ span s (suc d) → n * s .radix ≡ span s d → v ≡ surveyOf (matrix s) ℓ j → r ≡ placeIndex z s ℓ d j a
 unfolding placeIndex supportSize rank support
-index-as s ℓ d j a r result eq en em ev =
+index-as z s ℓ d j a r result eq en em ev =
     result
     ∙ (λ i. (eq i - 1) * ev i .before + ev i .size * (en i - 1) + ev i .rank * (em i - en i) + (a - 1 - (a - 1) / s .radix))
 
@@ -89,9 +89,6 @@ module _ (c : tie.Start) where
   all-checks : c .args .sizes .checks ≡ checks shape
   all-checks = ap (λ z. z .checks) (c .pre .1)
 
-  all-levels : c .args .sizes .levels ≡ levels shape
-  all-levels = ap (λ z. z .levels) (c .pre .1)
-
   all-columns : length (c .args .matrix .now) ≡ columns shape
   all-columns = ap length (c .pre .2) ∙ matrixClaim shape taken .sized
 
@@ -116,9 +113,6 @@ module _ (c : tie.Start) where
   radix-some : 0 < shape .radix
   radix-some = omega (arith, limits shape taken .radixLow)
 
-  levels-some : 0 < levels shape
-  levels-some = omega (arith, span-first shape, span-less shape taken 0 (limits shape taken .digitsLow))
-
 -- ---- what the tests leave
 
 abbrev one : tie.Else1 → tie.Start
@@ -133,17 +127,20 @@ three c = c .before .before
 abbrev four : tie.Else4 → tie.Else3
 four c = c .before .before
 
-abbrev counted : tie.Else5 → tie.Start
-counted c = one (two (three (four (c .before))))
+abbrev five : tie.Else6 → tie.Else4
+five c = c .before .before
 
-abbrev ranged : tie.Else6 → tie.Else5
+abbrev counted : tie.Else6 → tie.Start
+counted c = one (two (three (four (five c))))
+
+abbrev ranged : tie.Else7 → tie.Else6
 ranged c = c .before .before .before .before
 
-abbrev held : tie.Else7 → tie.Else6
+abbrev held : tie.Else8 → tie.Else7
 held c = c .before .before .before .before
 
-check-high : (c : tie.Else5) → cycle (counted c) .place .check < 8
-check-high c = let s = counted c in omega (arith, c .before .before .before .if3 .left, all-checks s, checks-high s)
+check-high : (c : tie.Else6) → cycle (counted c) .place .check < 8
+check-high c = let s = counted c in omega (arith, four (five c) .if3 .left, all-checks s, checks-high s)
 
 -- the bit that the code reads
 bit-read :
@@ -156,32 +153,34 @@ bit-read c =
     (c .before .wide .ensures ∙ ap (λ cs. getD cs (cycle s .place .column) 0) (s .pre .2))
 
 -- the spans of the next digit and of the own one, as the code makes them
-abbrev scaled : tie.After-scale → tie.Else5
+abbrev scaled : tie.After-scale → tie.Else6
 scaled c = ranged (c .before .before)
 
 own-next : (c : tie.After-scale) → let s = counted (scaled c) in c .scale .result ≡ span (shape s) (suc (cycle s .place .digit))
 own-next c =
     let s = counted (scaled c) in
-    c .scale .ensures ∙ one-mul _ ∙ span-power (shape s) (taken s) (cycle s .place .digit) (scaled c .before .if4 .left)
+    c .scale .ensures ∙ one-mul _ ∙ span-power (shape s) (taken s) (cycle s .place .digit) (five (scaled c) .if4 .left)
 
 own-span : (c : tie.After-scale) → let s = counted (scaled c) in c .scale .result * shape s .radix ≡ span (shape s) (cycle s .place .digit)
 own-span c =
     let s = counted (scaled c) in
-    ap (λ n. n * shape s .radix) (own-next c) ∙ sym (span-times (shape s) (taken s) (cycle s .place .digit) (scaled c .before .if4 .left))
+    ap (λ n. n * shape s .radix) (own-next c) ∙ sym (span-times (shape s) (taken s) (cycle s .place .digit) (five (scaled c) .if4 .left))
 
 placed :
-    (c : tie.Else7)
+    (c : tie.Else8)
     → let s = counted (ranged (held c)) in
-    IsPlace (shape s) (cycle s .place .check) (cycle s .place .digit) (cycle s .place .column) (cycle s .place .factor)
+    IsPlace (cycle s .skip) (shape s) (cycle s .place .check) (cycle s .place .digit) (cycle s .place .column) (cycle s .place .factor)
 placed c =
     let s = counted (ranged (held c)) in
-    let factor = factor-passed (cycle s .place .factor) _ (shape s .radix) (c .before .is-factor .ensures) (not-false _ (c .if7 .left)) in
+    let factor = factor-passed (cycle s .place .factor) _ (shape s .radix) (c .before .is-factor .ensures) (not-false _ (c .if8 .left)) in
+    let x = ranged (held c) in
     record {
-      check = omega (arith, ranged (held c) .before .before .before .if3 .left, all-checks s);
-      digit = ranged (held c) .before .if4 .left;
-      column = omega (arith, ranged (held c) .if5 .left, all-columns s);
+      check = omega (arith, four (five x) .if3 .left, all-checks s);
+      digit = five x .if4 .left;
+      unskipped = x .before .if5 .left;
+      column = omega (arith, x .if6 .left, all-columns s);
       held =
-          omega (arith, held c .if6 .left, bit-read (held c .before), bit-below (cycle s .place .check) (getD (matrix (shape s)) (cycle s .place .column) 0));
+          omega (arith, held c .if7 .left, bit-read (held c .before), bit-below (cycle s .place .check) (getD (matrix (shape s)) (cycle s .place .column) 0));
       low = factor .0;
       high = omega (arith, factor .1, own-span (c .before .before));
       undivided = factor .2;
@@ -194,15 +193,25 @@ survey c =
     let s = counted (ranged (held (c .before))) in
     c .survey-check .ensures ∙ ap (λ cs. surveyOf cs (cycle s .place .check) (cycle s .place .column)) (s .pre .2)
 
+-- q / ρ^z, from the own span
+reached : (c : tie.After-scale2) → let s = counted (ranged (held (c .before .before))) in c .scale2 .result ≡ span (shape s) (cycle s .skip)
+reached c =
+    let x = c .before .before in
+    let s = counted (ranged (held x)) in
+    let p = placed x in
+    c .scale2 .ensures
+    ∙ ap (λ n. n * shape s .radix ^ (cycle s .place .digit - cycle s .skip)) (own-span (x .before .before))
+    ∙ span-down (shape s) (taken s) (cycle s .place .digit) (p .digit) (cycle s .skip) (p .unskipped)
+
 index :
     (c : tie.After-index-of)
-    → let s = counted (ranged (held (c .before .before))) in
-    c .index-of .result ≡ placeIndex (shape s) (cycle s .place .check) (cycle s .place .digit) (cycle s .place .column) (cycle s .place .factor)
+    → let s = counted (ranged (held (c .before .before .before))) in
+    c .index-of .result ≡ placeIndex (cycle s .skip) (shape s) (cycle s .place .check) (cycle s .place .digit) (cycle s .place .column) (cycle s .place .factor)
 index c =
-    let s = counted (ranged (held (c .before .before))) in
-    index-as (shape s) (cycle s .place .check) (cycle s .place .digit) (cycle s .place .column) (cycle s .place .factor) (c .index-of .result)
-    (c .index-of .ensures) (all-levels s)
-    (own-next (c .before .before .before .before)) (own-span (c .before .before .before .before)) (survey (c .before))
+    let x = c .before .before .before in
+    let s = counted (ranged (held x)) in
+    index-as (cycle s .skip) (shape s) (cycle s .place .check) (cycle s .place .digit) (cycle s .place .column) (cycle s .place .factor) (c .index-of .result)
+    (c .index-of .ensures) (reached (c .before)) (own-next (x .before .before)) (own-span (x .before .before)) (survey (c .before .before))
 
 is-open-requires : tie.Need-is-open-requires
 is-open-requires c κs = search needs
@@ -218,8 +227,8 @@ within-longest-requires c κs = search needs
 returns-2 : tie.Need-returns-2
 returns-2 c =
     let s = one (c .before .before) in
-    let above = leb-false (cycle s .count) (lookups longestShape) (sym (c .before .within-longest .ensures) ∙ not-true _ (c .if2 .taken)) in
-    elsewhere s (λ e. omega (arith, above, longestClaim .reached, next-record (shape s) (taken s) (cycle s) e .0, lookups-high (shape s) (taken s)))
+    let above = leb-false (cycle s .count) (lookups 0 longestShape) (sym (c .before .within-longest .ensures) ∙ not-true _ (c .if2 .taken)) in
+    elsewhere s (λ e. omega (arith, above, longestClaim .reached, next-record (shape s) (taken s) (cycle s) e .0, lookups-high (cycle s .skip) (shape s) (taken s)))
 
 returns-3 : tie.Need-returns-3
 returns-3 c =
@@ -234,6 +243,11 @@ returns-4 c =
 returns-5 : tie.Need-returns-5
 returns-5 c =
     let s = one (two (three (four (c .before)))) in
+    misplaced s (λ at. omega (arith, at .0 .unskipped))
+
+returns-6 : tie.Need-returns-6
+returns-6 c =
+    let s = one (two (three (four (c .before .before)))) in
     misplaced s (λ at. omega (arith, at .0 .column, all-columns s))
 
 shared-slice-read-wide : tie.Need-shared-slice-read-wide
@@ -245,11 +259,11 @@ wide-requires c κs = search needs
 power-of-two-requires : tie.Need-power-of-two-requires
 power-of-two-requires c κs = omega (arith, check-high (c .before .before))
 
-div-if6 : tie.Need-div-if6
-div-if6 c = omega (arith, c .power-of-two .ensures, pow-pos (cycle (counted (c .before .before .before)) .place .check))
+div-if7 : tie.Need-div-if7
+div-if7 c = omega (arith, c .power-of-two .ensures, pow-pos (cycle (counted (c .before .before .before)) .place .check))
 
-returns-6 : tie.Need-returns-6
-returns-6 c = misplaced (counted (c .before .before .before .before)) (λ at. omega (arith, at .0 .held, bit-read (c .before)))
+returns-7 : tie.Need-returns-7
+returns-7 c = misplaced (counted (c .before .before .before .before)) (λ at. omega (arith, at .0 .held, bit-read (c .before)))
 
 sub-scale : tie.Need-sub-scale
 sub-scale c = search needs
@@ -262,7 +276,7 @@ scale-requires c κs =
     let x = ranged (c .before) in
     let s = counted x in
     let d = cycle s .place .digit in
-    (radix-some s, omega (arith, span-power (shape s) (taken s) d (x .before .if4 .left), span-high (shape s) (taken s) (suc d)))
+    (radix-some s, omega (arith, span-power (shape s) (taken s) d (five x .if4 .left), span-high (shape s) (taken s) (suc d)))
 
 mul-span : tie.Need-mul-span
 mul-span c = let s = counted (scaled c) in omega (arith, own-span c, span-high (shape s) (taken s) (cycle s .place .digit))
@@ -270,50 +284,71 @@ mul-span c = let s = counted (scaled c) in omega (arith, own-span c, span-high (
 is-factor-requires : tie.Need-is-factor-requires
 is-factor-requires c κs = radix-some (counted (scaled c))
 
-returns-7 : tie.Need-returns-7
-returns-7 c =
+returns-8 : tie.Need-returns-8
+returns-8 c =
     let s = counted (scaled (c .before .before)) in
     misplaced s
     (λ at.
-    factor-failed (cycle s .place .factor) _ (shape s .radix) (c .before .is-factor .ensures) (not-true _ (c .if7 .taken)) (at .0 .low)
+    factor-failed (cycle s .place .factor) _ (shape s .radix) (c .before .is-factor .ensures) (not-true _ (c .if8 .taken)) (at .0 .low)
     (omega (arith, at .0 .high, own-span (c .before .before))) (at .0 .undivided))
 
 survey-check-requires : tie.Need-survey-check-requires
 survey-check-requires c κs =
     let s = counted (ranged (held c)) in
-    omega (arith, all-columns s, columns-high (shape s) (taken s), check-high (ranged (held c)), ranged (held c) .if5 .left)
+    omega (arith, all-columns s, columns-high (shape s) (taken s), check-high (ranged (held c)), ranged (held c) .if6 .left)
+
+-- q / ρ^z is at most 256
+scale-requires-2 : tie.Need-scale-requires-2
+scale-requires-2 c κs =
+    let x = c .before in
+    let s = counted (ranged (held x)) in
+    let p = placed x in
+    let down = span-down (shape s) (taken s) (cycle s .place .digit) (p .digit) (cycle s .skip) (p .unskipped) in (
+      radix-some s,
+      omega (
+        arith,
+        ap (λ n. n * shape s .radix ^ (cycle s .place .digit - cycle s .skip)) (own-span (x .before .before)),
+        down,
+        span-high (shape s) (taken s) (cycle s .skip),
+      ),
+    )
 
 index-of-requires : tie.Need-index-of-requires
 index-of-requires c κs =
-    let x = c .before in
+    let x = c .before .before in
     let s = counted (ranged (held x)) in
     let d = cycle s .place .digit in
     let p = placed x in
     let high = span-high (shape s) (taken s) d in (
-      omega (arith, all-levels s, levels-some s, limits (shape s) (taken s) .levelsHigh),
+      omega (
+        arith,
+        reached c,
+        span-less (shape s) (taken s) (cycle s .skip) (omega (arith, p .digit, p .unskipped)),
+        span-high (shape s) (taken s) (cycle s .skip),
+      ),
       radix-some s,
       (omega (arith, p .high), p .undivided),
       (omega (arith, own-next (x .before .before), span-less (shape s) (taken s) d (p .digit)), omega (arith, own-span (x .before .before))),
-      survey-high (matrix (shape s)) (cycle s .place .check) (cycle s .place .column) (survey c)
+      survey-high (matrix (shape s)) (cycle s .place .check) (cycle s .place .column) (survey (c .before))
           (omega (arith, matrixClaim (shape s) (taken s) .sized, columns-high (shape s) (taken s))) (check-high (ranged (held x))),
     )
 
-returns-8 : tie.Need-returns-8
-returns-8 c =
-    let s = counted (ranged (held (c .before .before .before .before))) in
-    misplaced s (λ at. c .if8 .taken (index (c .before .before) ∙ at .1))
-
 returns-9 : tie.Need-returns-9
-unfolding supportSize rank support
 returns-9 c =
-    let x = c .before .before .before .before in
+    let s = counted (ranged (held (c .before .before .before .before .before))) in
+    misplaced s (λ at. c .if9 .taken (index (c .before .before) ∙ at .1))
+
+returns-10 : tie.Need-returns-10
+unfolding supportSize rank support
+returns-10 c =
+    let x = c .before .before .before .before .before in
     let s = counted (ranged (held x)) in
-    let opened = two (three (four (ranged (held x) .before))) in
+    let opened = two (three (four (five (ranged (held x))))) in
     let e = own-span (x .before .before) in
-    let v = survey (c .before .before .before) in
+    let v = survey (c .before .before .before .before) in
     let next : isNext (shape s) (cycle s) ≡ true =
     place-next (shape s) (taken s) (cycle s) (sym (opened .before .is-open .ensures) ∙ not-false _ (opened .if1 .left))
-    (placed x, sym (index (c .before .before)) ∙ c .if8 .left) in
+    (placed x, sym (index (c .before .before)) ∙ c .if9 .left) in
     found s next (λ i. record { span = e i; size = v i .size; rank = v i .rank })
 
 pub locate-spec : {M : Type 1} → statement M
@@ -327,18 +362,20 @@ locate-spec =
     returns-3
     returns-4
     returns-5
+    returns-6
     shared-slice-read-wide
     wide-requires
     power-of-two-requires
-    div-if6
-    returns-6
+    div-if7
+    returns-7
     sub-scale
     sub-scale-2
     scale-requires
     mul-span
     is-factor-requires
-    returns-7
-    survey-check-requires
-    index-of-requires
     returns-8
-    returns-9)
+    survey-check-requires
+    scale-requires-2
+    index-of-requires
+    returns-9
+    returns-10)

@@ -39,8 +39,8 @@ returns : tie.Need-returns
 unfolding startCall
 returns c =
     let args = start c .args in
-    λ mem. stores (startCall (args .shape)) (withRows (args .counters .now) (args .flags .now) (args .totals .now) mem) (args .words .now)
-    (made c .start .result) (calling-told _ _ _ _ _ _) (read c .cycle-of .ensures) (made c .start .ensures mem) (c .store .ensures)
+    λ mem. stores (λ st. startCall (args .shape) st (args .skip)) (withRows (args .counters .now) (args .flags .now) (args .totals .now) mem)
+    (args .words .now) (made c .start .result) (calling-told _ _ _ _ _ _) (read c .cycle-of .ensures) (made c .start .ensures mem) (c .store .ensures)
 
 pub jorivelune-start-spec : {M : Type 1} → statement M
 jorivelune-start-spec = tie.close (tie.spec cycle-of-requires start-requires store-requires same-length same-length-2 same-length-3 returns)

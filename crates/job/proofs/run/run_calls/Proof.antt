@@ -74,10 +74,10 @@ same-length : tie.Need-same-length
 same-length c = cells-kept (drifted (ran c))
 
 same-length-2 : tie.Need-same-length-2
-same-length-2 c = let cycle = ran c in cycle .run-cycle .kept .1 .1 .1 .0 ∙ cleared (programmed (drifted cycle)) .clear .kept .1 .1 .1 .0
+same-length-2 c = let cycle = ran c in cycle .run-cycle .kept .1 .1 .1 .1 .0 ∙ cleared (programmed (drifted cycle)) .clear .kept .1 .1 .1 .0
 
 same-length-3 : tie.Need-same-length-3
-same-length-3 c = search needs
+same-length-3 c = let cycle = ran c in cycle .run-cycle .kept .1 .1 .1 .1 .1 .0 ∙ cleared (programmed (drifted cycle)) .clear .kept .1 .1 .1 .1 .0
 
 same-length-4 : tie.Need-same-length-4
 same-length-4 c = search needs
@@ -99,7 +99,7 @@ returns c =
     let first = withCells (clear .last .1 .1 .0) (rest after) in
     let last = withCells (drift .last .1 .1 .1 .0) (rest after) in
     let kept = clear .kept .1 .1 .1 in
-    let left = cycle .last .1 .1 .1 in
+    let left = cycle .last .1 .1 .1 .1 in
     let sized : Sized s last =
     record {
       cells = cells-kept (drifted (ran c)) ∙ sizes .0 .cells;
