@@ -140,7 +140,7 @@ detectionClaim s t calls =
       open-below = λ e. rw (k .count) (k .open-below e);
       ended-at = λ e. k .count ∙ k .ended-at e;
       verdict =
-          λ is off i h near.
+          λ (is, off) i h near.
           right-flag s t (l .skip) (course-ended s t st l a is .0 .partial) (getD (l .written) i []) (getD (l .standing) i []) (getD (st .memory .flags) i 0)
           (written-row s _ _ _ (a .rows) i h) (standing-row s _ _ _ (a .rows) i h) near (ended-flag s t st l a is off i h);
     }
@@ -160,9 +160,9 @@ whole-rows z e s x y flag r =
     }
 
 pub coarseClaim : CoarseClaim
-coarseClaim s t calls is off i h near =
+coarseClaim s t calls still i h near =
     let z = log s calls .skip in
-    detectionClaim s t calls .verdict is off i h (le-trans (floors-nearer z s (wroteAt s calls i) (standsAt s calls i)) near)
+    detectionClaim s t calls .verdict still i h (le-trans (floors-nearer z s (wroteAt s calls i) (standsAt s calls i)) near)
 
 pub demandClaim : DemandClaim
 demandClaim s t calls fine =
@@ -171,7 +171,7 @@ demandClaim s t calls fine =
     record {
       open-below = λ e. rw length at (d .open-below e);
       ended-at = λ e. d .ended-at e ∙ length;
-      verdict = λ is off i h near. whole-rows _ fine s _ _ _ (coarseClaim s t calls is off i h near);
+      verdict = λ still i h near. whole-rows _ fine s _ _ _ (coarseClaim s t calls still i h near);
     }
 
 pub levelsClaim : LevelsClaim

@@ -130,7 +130,7 @@ module _ (s : Shape) (t : Taken s) (st : State) (l : Log) (a : Agrees s st l) wh
 
 pub shutdownClaim : ShutdownClaim
 unfolding run log
-shutdownClaim s t calls is fine off near z lt buffers made whole =
+shutdownClaim s t calls (is, off) fine near z lt buffers made whole =
     let st : State = run s calls in
     let l : Log = log s calls in
     let a : Agrees s st l = agrees s t calls in

@@ -49,11 +49,14 @@ standsAt s calls i = getD (log s calls .standing) i []
 abbrev pub flagAt : Shape → List Call → ℕ → ℕ
 flagAt s calls i = getD (run s calls .memory .flags) i 0
 
+-- a cycle has ended with the mark off: no accepted drift fell between its start and its last step, nor since
+abbrev pub EndedUnmarked : Shape → List Call → Type 0
+EndedUnmarked s calls = (log s calls .course ≡ ended) × (log s calls .mark ≡ false)
+
 -- After a list of calls the cells are the rows as they stand, and the record is idle, open or complete as the log's cycle is none, open or
 -- ended, with the log's count and the log's z. A cycle ends exactly at its accepted step (q / ρ^z − 1) × W: the count is that number where it has
--- ended and below it where it is open. And where a cycle has ended with the mark off, so that no accepted drift fell between its start and its
--- last step nor since, each row of whose cells at most τ differ between its two forms in floor(level / ρ^z) has flag 0 if none does and 1 if
--- some do.
+-- ended and below it where it is open. And where a cycle has ended with the mark off, each row of whose cells at most τ differ between its two
+-- forms in floor(level / ρ^z) has flag 0 if none does and 1 if some do.
 pub record Detects (s : Shape) (calls : List Call) : Type 0 where
   pub cells : run s calls .memory .cells ≡ flat (log s calls .standing)
   pub phase : run s calls .cycle .phase ≡ phaseOf (log s calls .course)
@@ -62,8 +65,7 @@ pub record Detects (s : Shape) (calls : List Call) : Type 0 where
   pub open-below : log s calls .course ≡ open-cycle → run s calls .cycle .count < lookups (log s calls .skip) s
   pub ended-at : log s calls .course ≡ ended → run s calls .cycle .count ≡ lookups (log s calls .skip) s
   pub verdict :
-      log s calls .course ≡ ended → log s calls .mark ≡ false → (i : ℕ) → i < s .rows
-      → let z = log s calls .skip in
+      EndedUnmarked s calls → (i : ℕ) → i < s .rows → let z = log s calls .skip in
       differences (floors z s (wroteAt s calls i)) (floors z s (standsAt s calls i)) ≤ s .errors
       → RightFlag (floors z s (wroteAt s calls i)) (floors z s (standsAt s calls i)) (flagAt s calls i)
 
@@ -77,8 +79,8 @@ pub record DetectsAll (s : Shape) (calls : List Call) : Type 0 where
   pub open-below : log s calls .course ≡ open-cycle → run s calls .cycle .count < (levels s - 1) * matrixOnes s
   pub ended-at : log s calls .course ≡ ended → run s calls .cycle .count ≡ (levels s - 1) * matrixOnes s
   pub verdict :
-      log s calls .course ≡ ended → log s calls .mark ≡ false → (i : ℕ) → i < s .rows
-      → differences (wroteAt s calls i) (standsAt s calls i) ≤ s .errors → RightFlag (wroteAt s calls i) (standsAt s calls i) (flagAt s calls i)
+      EndedUnmarked s calls → (i : ℕ) → i < s .rows → differences (wroteAt s calls i) (standsAt s calls i) ≤ s .errors
+      → RightFlag (wroteAt s calls i) (standsAt s calls i) (flagAt s calls i)
 
 abbrev pub DemandClaim : Type 0
 DemandClaim = (s : Shape) → Taken s → (calls : List Call) → log s calls .skip ≡ 0 → DetectsAll s calls
@@ -87,8 +89,7 @@ DemandClaim = (s : Shape) → Taken s → (calls : List Call) → log s calls .s
 -- floor(level / ρ^z).
 abbrev pub CoarseClaim : Type 0
 CoarseClaim =
-    (s : Shape) → Taken s → (calls : List Call) → log s calls .course ≡ ended → log s calls .mark ≡ false → (i : ℕ) → i < s .rows
-    → let z = log s calls .skip in
+    (s : Shape) → Taken s → (calls : List Call) → EndedUnmarked s calls → (i : ℕ) → i < s .rows → let z = log s calls .skip in
     differences (wroteAt s calls i) (standsAt s calls i) ≤ s .errors
     → RightFlag (floors z s (wroteAt s calls i)) (floors z s (standsAt s calls i)) (flagAt s calls i)
 
@@ -163,6 +164,6 @@ pub record Shutdown (z : ℕ) (s : Shape) (calls : List Call) (buffers : List (L
 
 abbrev pub ShutdownClaim : Type 0
 ShutdownClaim =
-    (s : Shape) → Taken s → (calls : List Call) → log s calls .course ≡ ended → log s calls .skip ≡ 0 → log s calls .mark ≡ false
+    (s : Shape) → Taken s → (calls : List Call) → EndedUnmarked s calls → log s calls .skip ≡ 0
     → ((i : ℕ) → i < s .rows → differences (wroteAt s calls i) (standsAt s calls i) ≤ s .errors)
     → (z : ℕ) → z < s .digits → (buffers : List (List ℕ)) → Buffers s buffers → length buffers ≡ lookups z s → Shutdown z s calls buffers
