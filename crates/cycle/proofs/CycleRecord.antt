@@ -5,40 +5,31 @@ use mathlib.Core.Bool.{Bool, true, false, cond, _&&_, and-eq-true-iff, false≢t
 use Prim.Native.Nat.{ℕ, suc, _-_, _≤_, _<_}
 use native.Mathlib.Nat.{one-le-mul}
 use native.Mathlib.Omega.{arith}
-use lib.Dec.{eqb, ltb}
 use lib.ListN.{length}
-use borrow.Author.Tests.{eqb-true, eq-eqb, ltb-true, lt-ltb, le-ltb}
+use borrow.Author.Tests.{lt-ltb}
 use Rattle.parity.specs.Shape.{checks}
 use Rattle.parity.specs.Matrix.{matrixOnes, lookups}
 use Rattle.parity.specs.Questions.{Taken}
 use Rattle.parity.specs.declared.Shape.{Shape}
 use Rattle.parity.proofs.Redundancy.{redundancyClaim}
-use Rattle.schedule.specs.Schedule.{Entry, schedule}
+use Rattle.schedule.specs.Schedule.{schedule}
 use Rattle.schedule.specs.Index.{span}
 use Rattle.schedule.proofs.Support.{support-some}
 use Rattle.schedule.proofs.Length.{lengthClaim}
-use Rattle.cycle.specs.Record.{samePlace, entryAt, nextEntry, openAt, completeAt, cycleAt, isOpen, isNext, placeOf}
-use Rattle.cycle_place.specs.declared.Place.{Place}
+use Rattle.cycle_place.specs.Places.{placeOf, entryAt, nextAt, isPlaceOf}
+use Rattle.cycle_place.specs.declared.walk.Next.{Next}
+use Rattle.cycle_place.specs.declared.walk.Next.the-variants as nexts
+use Rattle.cycle_place.proofs.Spans.{span-less}
+use Rattle.cycle_place.proofs.Places.{AtPlace, place-end, is-place, place-is, place-at}
+use Rattle.cycle.specs.Record.{openAt, completeAt, recordAt, cycleAt, isOpen, isNext}
 use Rattle.cycle.specs.declared.Cycle.{Cycle}
 use Rattle.cycle.specs.declared.Phase.{Phase}
 use Rattle.cycle.specs.declared.Phase.the-variants.{Idle, Open, Complete}
-use Rattle.cycle.proofs.Spans.{span-less}
 
 pub open-phase : (p : Phase) → isOpen p ≡ true → p ≡ Open
 open-phase Idle e = absurd (false≢true e)
 open-phase Open e = refl
 open-phase Complete e = absurd (false≢true e)
-
-pub same-place : (p q : Place) → samePlace p q ≡ true → p ≡ q
-same-place p q e =
-    let four = and-eq-true-iff _ (eqb (p .factor) (q .factor)) .0 e in
-    let three = and-eq-true-iff _ (eqb (p .column) (q .column)) .0 (four .0) in
-    let two = and-eq-true-iff (eqb (p .check) (q .check)) (eqb (p .digit) (q .digit)) .0 (three .0) in
-    let check = eqb-true (p .check) (q .check) (two .0) in
-    let digit = eqb-true (p .digit) (q .digit) (two .1) in
-    let column = eqb-true (p .column) (q .column) (three .1) in
-    let factor = eqb-true (p .factor) (q .factor) (four .1) in
-    λ i. record { check = check i; digit = digit i; column = column i; factor = factor i }
 
 -- a cycle has a lookup, so a start leaves an open record
 pub lookups-some : (z : ℕ) (s : Shape) → Taken s → z < s .digits → 0 < lookups z s
@@ -59,11 +50,11 @@ module _ (z : ℕ) (s : Shape) where
   -- the count and the digits skipped, open or complete
   record-told : (c : ℕ) → (cycleAt z s c .count ≡ c) × (cycleAt z s c .skip ≡ z)
   unfolding cycleAt
-  record-told c = go (ltb c (length (schedule z s)))
+  record-told c = go (nextAt z s c)
     where
-      go : (b : Bool) → let cycle = cond b (openAt z (placeOf (entryAt z s c)) c) (completeAt z c) in (cycle .count ≡ c) × (cycle .skip ≡ z)
-      go true = (refl, refl)
-      go false = (refl, refl)
+      go : (next : Next) → (recordAt z next c .count ≡ c) × (recordAt z next c .skip ≡ z)
+      go (nexts.Place place) = (refl, refl)
+      go nexts.End = (refl, refl)
 
   pub record-count : (c : ℕ) → cycleAt z s c .count ≡ c
   record-count c = record-told c .0
@@ -94,30 +85,20 @@ module _ (z : ℕ) (s : Shape) where
   stands-next c cycle at =
       let count : cycle .count ≡ cycleAt z s c .count = at .count ∙ sym (record-count c) in
       let skip : cycle .skip ≡ cycleAt z s c .skip = at .skip ∙ sym (record-skip c) in
-      λ i.
-      isOpen (at .phase i) && ltb (count i) (length (schedule (skip i) s)) && samePlace (at .place i) (placeOf (entryAt (skip i) s (count i)))
+      λ i. isOpen (at .phase i) && isPlaceOf (skip i) s (count i) (at .place i)
 
   module _ (t : Taken s) (c : ℕ) where
     pub record-open : c < lookups z s → cycleAt z s c ≡ openAt z (placeOf (entryAt z s c)) c
-    unfolding cycleAt
+    unfolding cycleAt nextAt
     record-open h = rw (lt-ltb c (length (schedule z s)) (rw (lengthClaim z s t) h))
 
     pub record-complete : lookups z s ≤ c → cycleAt z s c ≡ completeAt z c
     unfolding cycleAt
-    record-complete h = rw (le-ltb c (length (schedule z s)) (rw (lengthClaim z s t) h))
+    record-complete h = ap (λ next. recordAt z next c) (place-end z s t c h)
 
     pub next-open : c < lookups z s → isNext s (cycleAt z s c) ≡ true
     unfolding isNext
-    next-open h =
-        let e : Entry = entryAt z s c in
-        rw (record-open h)
-        (simp (
-          lt-ltb c (length (schedule z s)) (rw (lengthClaim z s t) h),
-          eq-eqb (e .check) (e .check) refl,
-          eq-eqb (e .digit) (e .digit) refl,
-          eq-eqb (e .column) (e .column) refl,
-          eq-eqb (e .factor) (e .factor) refl,
-        ))
+    next-open h = rw (record-open h) (is-place z s t c h)
 
     pub next-complete : lookups z s ≤ c → isNext s (cycleAt z s c) ≡ false
     unfolding isNext
@@ -129,10 +110,17 @@ pub next-record :
 unfolding isNext
 next-record s t cycle e =
     let z : ℕ = cycle .skip in
-    let entry : Entry = nextEntry s cycle in
-    let both = and-eq-true-iff _ (samePlace (cycle .place) (placeOf entry)) .0 e in
-    let two = and-eq-true-iff (isOpen (cycle .phase)) (ltb (cycle .count) (length (schedule z s))) .0 (both .0) in
-    let lt : cycle .count < lookups z s = rw (lengthClaim z s t) at (ltb-true (cycle .count) (length (schedule z s)) (two .1)) in
-    let phase = open-phase (cycle .phase) (two .0) in
-    let place = same-place (cycle .place) (placeOf entry) (both .1) in
+    let both = and-eq-true-iff (isOpen (cycle .phase)) (isPlaceOf z s (cycle .count) (cycle .place)) .0 e in
+    let (lt, place) = place-is z s t (cycle .count) (cycle .place) (both .1) in
+    let phase = open-phase (cycle .phase) (both .0) in
     (lt, (λ i. record { phase = phase i; place = place i; count = cycle .count; skip = z }) ∙ sym (record-open z s t (cycle .count) lt))
+
+-- .. and what question 9 takes is open and stands at a place of its count
+module _ (s : Shape) (t : Taken s) (cycle : Cycle) where
+  pub next-phase : isNext s cycle ≡ true → cycle .phase ≡ Open
+  unfolding isNext
+  next-phase e = open-phase (cycle .phase) (and-eq-true-iff (isOpen (cycle .phase)) _ .0 e .0)
+
+  pub next-place : isNext s cycle ≡ true → AtPlace (cycle .skip) s (cycle .count) (cycle .place)
+  unfolding isNext
+  next-place e = place-at (cycle .skip) s t (cycle .count) (cycle .place) (and-eq-true-iff (isOpen (cycle .phase)) _ .0 e .1)

@@ -2,10 +2,6 @@
 pub mod Asked
 pub mod CycleRecord
 pub mod Steps
-pub mod Spans
-pub mod NextFactor
-pub mod Places
-pub mod Following
 pub mod StepPasses
 pub mod Given
 pub mod MatrixPart

@@ -18,7 +18,6 @@ use Rattle.schedule.specs.Schedule.{within, testVector, schedule}
 use Rattle.schedule.specs.Index.{supportSize, rank, span, endsAt, entryOf}
 use Rattle.schedule.specs.Line.{counted, flagged, reset}
 use Rattle.schedule.proofs.Cap.{Proper, schedule-proper}
-use Rattle.schedule.proofs.Index.{indexClaim}
 use Rattle.schedule.proofs.Length.{lengthClaim}
 use Rattle.schedule.proofs.Lookup.{match-unit}
 use Rattle.schedule.proofs.Ranks.{stands-support}
@@ -26,24 +25,21 @@ use Rattle.array_memory.specs.Blocks.{blockTotals}
 use Rattle.array_memory.specs.Geometry.{rowAt, rowMatch, matchBytes}
 use Rattle.array_memory.specs.Memory.{cellCount}
 use Rattle.array_memory.proofs.RowPlaces.{row-sized}
-use Rattle.cycle.specs.Record.{entryAt, nextEntry, isNext}
+use Rattle.cycle_place.specs.Places.{entryAt}
+use Rattle.cycle_place.specs.Walk.{standingAt}
+use Rattle.cycle_place.specs.declared.walk.Standing.{Standing}
+use Rattle.cycle_place.proofs.Places.{place-entry}
+use Rattle.cycle.specs.Record.{nextEntry, isNext}
 use Rattle.cycle.specs.Calls.{State, countedRows, flaggedRows, totalledBlocks, resetRows, stepMatches, steppedMemory}
-use Rattle.cycle.specs.Places.{standingAt}
 use Rattle.cycle.specs.declared.Cycle.{Cycle}
-use Rattle.cycle.specs.declared.place.Standing.{Standing}
-use Rattle.cycle.proofs.CycleRecord.{next-record}
-use Rattle.cycle.proofs.Places.{next-place}
+use Rattle.cycle.proofs.CycleRecord.{next-record, next-place}
 
 -- ---- the entry of a record that question 9 takes
 
 module _ (s : Shape) (t : Taken s) (cycle : Cycle) (next : isNext s cycle ≡ true) where
   pub next-entry :
       nextEntry s cycle ≡ entryOf (cycle .skip) s (cycle .place .check) (cycle .place .digit) (cycle .place .column) (cycle .place .factor)
-  unfolding entryAt
-  next-entry =
-      let (place, index) = next-place s t cycle next in
-      ap (entryAt (cycle .skip) s) (sym index)
-      ∙ indexClaim (cycle .skip) s t .stands (cycle .place .check) (cycle .place .digit) (cycle .place .column) (cycle .place .factor) place .1 (within 0 0 0 0)
+  next-entry = place-entry (cycle .skip) s t (cycle .count) (cycle .place) (next-place s t cycle next) .1
 
   -- its column and its input are within their bounds
   pub next-proper : Proper s (entryOf (cycle .skip) s (cycle .place .check) (cycle .place .digit) (cycle .place .column) (cycle .place .factor))

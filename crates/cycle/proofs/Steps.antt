@@ -26,7 +26,8 @@ use Rattle.shape.specs.Answers.{accepted, refused, giving, calling}
 use Rattle.array_memory.specs.Geometry.{rowAt, rowMatch, matchBytes}
 use Rattle.array_memory.specs.Blocks.{blocksOf, blocks, blockTotals}
 use Rattle.array_memory.specs.Memory.{Memory, withCells, noMemory, RowsSized, Sized, cellCount}
-use Rattle.cycle.specs.Record.{entryAt, nextEntry, cycleAt, isNext}
+use Rattle.cycle_place.specs.Places.{entryAt}
+use Rattle.cycle.specs.Record.{nextEntry, cycleAt, isNext}
 use Rattle.cycle.specs.Calls.{State, zeroRows, cleared, fresh, started, startCall, countedRows, flaggedRows, resetRows, stepMatches}
 use Rattle.cycle.specs.Calls.{totalledBlocks, steppedMemory, stepped, stepCall}
 use Rattle.cycle.specs.Run.{start, step, after}

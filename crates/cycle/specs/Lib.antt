@@ -4,4 +4,3 @@ pub mod Calls
 pub mod Run
 pub mod Claims
 pub mod Methods
-pub mod Places

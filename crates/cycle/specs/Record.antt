@@ -1,27 +1,20 @@
 -- The cycle record as a function of the digits that its cycle skips, of the shape, and of the accepted steps since the start.
-use mathlib.Core.Bool.{Bool, true, false, cond, _&&_}
+use mathlib.Core.Bool.{Bool, true, false, _&&_}
 use Prim.Native.Nat.{ℕ}
-use lib.Dec.{eqb, ltb}
-use lib.ListN.{length, getD}
 use Rattle.parity.specs.Questions.{Question}
 use Rattle.parity.specs.declared.Shape.{Shape}
-use Rattle.schedule.specs.Schedule.{Entry, within, schedule}
+use Rattle.schedule.specs.Schedule.{Entry}
+use Rattle.cycle_place.specs.Places.{placeAt, entryAt, nextAt, isPlaceOf}
 use Rattle.cycle_place.specs.declared.Place.{Place}
+use Rattle.cycle_place.specs.declared.walk.Next.{Next}
+use Rattle.cycle_place.specs.declared.walk.Next.the-variants as nexts
 use Rattle.cycle.specs.declared.Cycle.{Cycle}
 use Rattle.cycle.specs.declared.Phase.{Phase}
 use Rattle.cycle.specs.declared.Phase.the-variants.{Idle, Open, Complete}
 
--- the place with ℓ, s, j and a
-abbrev pub placeAt : ℕ → ℕ → ℕ → ℕ → Place
-placeAt ℓ s j a = record { check = ℓ; digit = s; column = j; factor = a }
-
 -- no place: no lookup is to come
 abbrev pub noPlace : Place
 noPlace = placeAt 0 0 0 0
-
--- the place of an entry of the schedule
-abbrev pub placeOf : Entry → Place
-placeOf e = placeAt (e .check) (e .digit) (e .column) (e .factor)
 
 -- the idle record with count 0
 abbrev pub idle : Cycle
@@ -35,13 +28,14 @@ openAt z place c = record { phase = Open; place = place; count = c; skip = z }
 abbrev pub completeAt : ℕ → ℕ → Cycle
 completeAt z c = record { phase = Complete; place = noPlace; count = c; skip = z }
 
--- the schedule's entry c, counted from 0
-unfoldable pub entryAt : ℕ → Shape → ℕ → Entry
-entryAt z s c = getD (schedule z s) c (within 0 0 0 0)
+-- open while a vector is still to come, and complete after the last
+abbrev pub recordAt : ℕ → Next → ℕ → Cycle
+recordAt z (nexts.Place place) c = openAt z place c
+recordAt z nexts.End c = completeAt z c
 
--- the record that a start with z and c accepted steps leave: open while a vector is still to come, and complete after the last
+-- the record that a start with z and c accepted steps leave
 unfoldable pub cycleAt : ℕ → Shape → ℕ → Cycle
-cycleAt z s c = cond (ltb c (length (schedule z s))) (openAt z (placeOf (entryAt z s c)) c) (completeAt z c)
+cycleAt z s c = recordAt z (nextAt z s c) c
 
 -- the entry that a record stands at, by its own digits and count
 abbrev pub nextEntry : Shape → Cycle → Entry
@@ -53,14 +47,10 @@ isOpen Idle = false
 isOpen Open = true
 isOpen Complete = false
 
-abbrev pub samePlace : Place → Place → Bool
-samePlace p q = eqb (p .check) (q .check) && eqb (p .digit) (q .digit) && eqb (p .column) (q .column) && eqb (p .factor) (q .factor)
-
 -- 9: is the record one that a start and accepted steps on this shape leave, with a vector still to come? It is the one with its own z and its own
 -- count. A start takes no z of b or more, and no vector is to come there: the schedule is empty.
 unfoldable pub isNext : Shape → Cycle → Bool
-isNext s cycle =
-    isOpen (cycle .phase) && ltb (cycle .count) (length (schedule (cycle .skip) s)) && samePlace (cycle .place) (placeOf (nextEntry s cycle))
+isNext s cycle = isOpen (cycle .phase) && isPlaceOf (cycle .skip) s (cycle .count) (cycle .place)
 
 abbrev pub cycleQuestion : Shape → Cycle → Question
 cycleQuestion s cycle = record { number = 9; holds = isNext s cycle }

@@ -3,8 +3,6 @@
 use super::Changed;
 use super::Cycle;
 use super::passes::look_and_count;
-use super::place::Located;
-use super::place::locate;
 use acam::matrix::matrix_of;
 use array::change::write_row;
 use array_memory::memory::check_matches;
@@ -13,6 +11,9 @@ use array_memory::memory::check_rows;
 use array_memory::memory::check_skip;
 use array_memory::questions::check_program;
 use cycle_passes::rows::reset_rows;
+use cycle_place::walk::Located;
+use cycle_place::walk::advance;
+use cycle_place::walk::first;
 use parity::Shape;
 use shape::answer::Outcome;
 use shape::byte::fill;
@@ -117,7 +118,7 @@ impl Cycle {
                 let checks = sizes.checks;
                 reset_rows(counters, flags, totals);
                 let matrix = matrix_of(shape, checks);
-                done(Cycle::first(shape, skip, &matrix[..columns]))
+                done(Cycle::open(skip, first(shape, &matrix[..columns]), 0))
             }
         }
     }
@@ -172,10 +173,12 @@ impl Cycle {
         let checks = sizes.checks;
         let matrix = matrix_of(shape, checks);
         let part = &matrix[..columns];
-        match locate(self, shape, sizes, part) {
+        match self.locate(shape, sizes, part) {
             Located::Elsewhere => refused(self, 9),
             Located::At(standing) => {
-                let next = self.advance(shape, sizes, part, standing);
+                let place = self.place;
+                let skip = self.skip;
+                let next = self.moved(advance(place, skip, shape, sizes, part, standing));
                 look_and_count(
                     self,
                     shape,

@@ -1,15 +1,27 @@
 // The detection cycle of the sorting head's array: its record, and the calls that need it.
 pub mod calls;
 mod passes;
-mod place;
 
 use cycle_place::Place;
+use cycle_place::walk;
+use cycle_place::walk::Located;
+use cycle_place::walk::Next;
+use parity::Shape;
 use shape::answer::Outcome;
+use shape::sizes::Sizes;
 ghost use mathlib.Core.Path.{_≡_};
+ghost use mathlib.Core.Bool.{cond};
+ghost use Prim.Native.Nat.{suc, _<_};
 ghost use lib.Dec.{leb};
 ghost use Rattle.parity.specs.Matrix.{lookups};
 ghost use Rattle.parity.specs.Claims.{longestShape};
-ghost use Rattle.cycle.specs.Record.{openAt, completeAt, isOpen};
+ghost use Rattle.parity.specs.Matrix.{matrix as matrixOf};
+ghost use Rattle.parity.specs.Questions.{Taken};
+ghost use Rattle.shape.specs.Shapes.{sizesOf};
+ghost use Rattle.cycle_place.specs.Walk.{standingAt};
+ghost use Rattle.cycle_place.specs.declared.walk.Located.the-variants.{At, Elsewhere};
+ghost use Rattle.cycle.specs.declared.Phase.the-variants.{Open};
+ghost use Rattle.cycle.specs.Record.{openAt, completeAt, recordAt, isOpen, isNext};
 
 pub enum Phase {
     Idle,
@@ -96,5 +108,37 @@ impl Cycle {
         ensures { λ r. ⌜ r ≡ leb (self .count) (lookups 0 longestShape) ⌝ }
     {
         self.count <= Cycle::MAX_COUNT
+    }
+
+    // Whether the record stands at the place of its count, with that lookup still to come, and where.
+    pub(crate) fn locate(self, shape: Shape, sizes: Sizes, matrix: &[u8]) -> Located
+        requires { ⌜ Taken shape × (sizes ≡ sizesOf shape) × (now matrix ≡ matrixOf shape) ⌝ }
+        ensures { λ r. ⌜ r ≡ cond (isNext shape self) (At (standingAt shape (self .place))) Elsewhere ⌝ }
+    {
+        let place = self.place;
+        let skip = self.skip;
+        let count = self.count;
+        if !self.is_open() {
+            return Located::Elsewhere;
+        }
+        if !self.within_longest() {
+            return Located::Elsewhere;
+        }
+        walk::locate(place, skip, count, shape, sizes, matrix)
+    }
+
+    // The open record after a lookup, by the place of the next one.
+    pub(crate) fn moved(mut self, next: Next) -> Self
+        requires { ⌜ (self .phase ≡ Open) × (self .count < 261120) ⌝ }
+        ensures { λ r. ⌜ r ≡ recordAt (self .skip) next (suc (self .count)) ⌝ }
+    {
+        self.count = self.count + 1;
+        match next {
+            Next::Place(place) => {
+                self.place = place;
+                self
+            }
+            Next::End => Cycle::complete(self.skip, self.count),
+        }
     }
 }

@@ -1,11 +1,11 @@
 // The lookup of a step on all rows.
 use super::Cycle;
-use super::place::Standing;
 use cycle_passes::rows::count_rows;
 use cycle_passes::rows::flag_rows;
 use cycle_passes::rows::match_column;
 use cycle_passes::totals::total_blocks;
 use cycle_place::factors::scale;
+use cycle_place::walk::Standing;
 use parity::Shape;
 use shape::byte::fill;
 ghost use mathlib.Core.Path.{_≡_};
@@ -17,8 +17,8 @@ ghost use Rattle.parity.specs.Shape.{columns as columnsOf};
 ghost use Rattle.parity.specs.Questions.{Taken};
 ghost use Rattle.shape.specs.Lent.{was, left};
 ghost use Rattle.array_memory.specs.Memory.{Memory, withCells, withAll, noMemory, Sized};
+ghost use Rattle.cycle_place.specs.Walk.{standingAt};
 ghost use Rattle.cycle.specs.Record.{isNext};
-ghost use Rattle.cycle.specs.Places.{standingAt};
 ghost use Rattle.cycle.specs.Calls.{stateOf, stepMatches, steppedMemory};
 
 // Whether the lookup of a factor is the last of its check row and digit.

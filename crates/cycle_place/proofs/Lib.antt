@@ -1,2 +1,6 @@
 -- The laws that the proofs of the functions, here and in the crate above, cite.
 pub mod CheckRows
+pub mod Spans
+pub mod NextFactor
+pub mod Places
+pub mod Following

@@ -1,2 +1,4 @@
--- What the passes over the columns tell.
+-- The place of a lookup in the schedule; and what the passes over the columns and the walk through the schedule tell.
+pub mod Places
 pub mod Survey
+pub mod Walk

@@ -20,7 +20,9 @@ use Rattle.schedule.specs.Schedule.{testVector}
 use Rattle.schedule.proofs.Length.{lengthClaim}
 use Rattle.array_memory.specs.Geometry.{matchBytes}
 use Rattle.array_memory.specs.Memory.{Sized}
-use Rattle.cycle.specs.Record.{placeOf, entryAt, openAt, completeAt, cycleAt, isOpen, isNext}
+use Rattle.cycle_place.specs.Places.{placeOf, entryAt, nextAt}
+use Rattle.cycle_place.specs.declared.walk.Next.the-variants as nexts
+use Rattle.cycle.specs.Record.{recordAt, cycleAt, isOpen, isNext}
 use Rattle.cycle.specs.Calls.{State, stepMatches, steppedMemory, stepped, stepQuestions, stepCall}
 use Rattle.cycle.specs.Run.{step, runFrom}
 use Rattle.cycle.proofs.Asked.{step-asked}
@@ -30,10 +32,10 @@ use Rattle.cycle_run.specs.Cycles.{lastMatches}
 
 -- a record of a count is open while a lookup is to come
 open-below : (z : ℕ) (s : Shape) → Taken s → (c : ℕ) → isOpen (cycleAt z s c .phase) ≡ ltb c (lookups z s)
-unfolding cycleAt
+unfolding cycleAt nextAt
 open-below z s t c = rw (lengthClaim z s t) (go (ltb c (lookups z s)))
   where
-    go : (b : Bool) → isOpen (cond b (openAt z (placeOf (entryAt z s c)) c) (completeAt z c) .phase) ≡ b
+    go : (b : Bool) → isOpen (recordAt z (cond b (nexts.Place (placeOf (entryAt z s c))) nexts.End) c .phase) ≡ b
     go true = refl
     go false = refl
 

@@ -10,7 +10,7 @@ use Rattle.shape.specs.Answers.{Result, accepted, giving, calling}
 use Rattle.schedule.specs.Schedule.{testVector}
 use Rattle.array_memory.specs.Geometry.{matchBytes}
 use Rattle.array_memory.specs.Memory.{Memory}
-use Rattle.cycle.specs.Record.{entryAt}
+use Rattle.cycle_place.specs.Places.{entryAt}
 use Rattle.cycle.specs.Calls.{State, startArguments, lentQuestions}
 use Rattle.cycle.specs.Run.{start, step, runFrom}
 

@@ -14,8 +14,7 @@ use Rattle.cycle.specs.Calls.{State, zeroRows, fresh, started, steppedMemory, s
 use Rattle.array_memory.specs.Memory.{Sized}
 use Rattle.cycle.specs.Run.{start, step, after, runFrom, run}
 use Rattle.detection.specs.Claims.{stepsWith, Buffers, CourseClaim, QuestionNineClaim}
-use Rattle.cycle.proofs.CycleRecord.{record-count, record-skip, record-open, record-complete, next-open, next-record}
-use Rattle.cycle.proofs.Places.{next-place}
+use Rattle.cycle.proofs.CycleRecord.{record-count, record-skip, record-open, record-complete, next-open, next-record, next-place}
 use Rattle.cycle.proofs.Steps.{fresh-sized, Lines, started-lines, started-sized, start-done, stepped-lines, stepped-cycle, stepped-sized, step-state}
 
 -- a start and c taken steps have been made on these cells

@@ -12,7 +12,8 @@ use Rattle.array_memory.specs.Geometry.{rowAt, withRow, rowMatch, matchBytes}
 use Rattle.array_memory.specs.Memory.{cellCount}
 use Rattle.array.specs.Calls.{drifted, driftCall, programmed}
 use Rattle.array_lookup.specs.Lookups.{taskMatches, taskCount, lookupCall}
-use Rattle.cycle.specs.Record.{entryAt, cycleAt, isNext}
+use Rattle.cycle_place.specs.Places.{entryAt, nextAt, isPlaceOf}
+use Rattle.cycle.specs.Record.{cycleAt, isNext}
 use Rattle.cycle.specs.Calls.{zeroRows, cleared, fresh, programCall, started, startCall, countedRows, flaggedRows, resetRows, stepMatches}
 use Rattle.cycle.specs.Calls.{totalledBlocks, steppedMemory, stepped, stepCall}
 use Rattle.cycle.specs.Run.{run}
@@ -22,7 +23,7 @@ use Rattle.detection.specs.Examples.{ExamplesClaim, examples, CoarseExam
 pub examplesClaim : ExamplesClaim
 unfolding
     examples run log blank calling zeroRows cleared fresh programCall driftCall lookupCall startCall stepCall started stepped steppedMemory drifted programmed
-    taskMatches taskCount countedRows flaggedRows totalledBlocks resetRows stepMatches entryAt cycleAt isNext cellCount blocksOf blockAt countFlagged
+    taskMatches taskCount countedRows flaggedRows totalledBlocks resetRows stepMatches entryAt nextAt isPlaceOf cycleAt isNext cellCount blocksOf blockAt countFlagged
     blockTotals rowAt withRow rowMatch matchBytes counted flagged reset factors ofDigit ofCheck schedule unitVector testVector matchByte taskVector
     number checkDigit checkCell encode weight ofWeight columnOrder eligible ruleColumns checkColumns matrix support matrixOnes lookups
     digit levels largest limit redundancy checks columns
@@ -31,7 +32,7 @@ examplesClaim = refl
 pub coarseExamplesClaim : CoarseExamplesClaim
 unfolding
     coarseCycle run log blank calling zeroRows cleared fresh programCall driftCall startCall stepCall started stepped steppedMemory drifted programmed
-    countedRows flaggedRows totalledBlocks resetRows stepMatches entryAt cycleAt isNext cellCount blocksOf blockAt countFlagged
+    countedRows flaggedRows totalledBlocks resetRows stepMatches entryAt nextAt isPlaceOf cycleAt isNext cellCount blocksOf blockAt countFlagged
     blockTotals rowAt withRow rowMatch matchBytes counted flagged reset factors ofDigit ofCheck schedule unitVector testVector matchByte
     number checkDigit checkCell encode weight ofWeight columnOrder eligible ruleColumns checkColumns matrix support matrixOnes lookups
     digit levels largest limit redundancy checks columns

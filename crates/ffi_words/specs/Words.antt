@@ -7,7 +7,7 @@ use lib.Dec.{eqb}
 use lib.ListN.{getD}
 use Rattle.shape.specs.Answers.{Said, Result, giving}
 use Rattle.array_memory.specs.Memory.{Memory}
-use Rattle.cycle.specs.Record.{placeAt}
+use Rattle.cycle_place.specs.Places.{placeAt}
 use Rattle.cycle.specs.Calls.{State, stateOf}
 use Rattle.cycle.specs.declared.Cycle.{Cycle}
 use Rattle.cycle.specs.declared.Phase.{Phase}

@@ -10,7 +10,8 @@ use Rattle.array_memory.specs.Blocks.{blocksOf, blockAt, countFlagged, blockTot
 use Rattle.array_memory.specs.Geometry.{rowAt, rowMatch, matchBytes}
 use Rattle.array_memory.specs.Memory.{cellCount}
 use Rattle.array.specs.Calls.{drifted, driftCall}
-use Rattle.cycle.specs.Record.{entryAt, cycleAt, isNext}
+use Rattle.cycle_place.specs.Places.{entryAt, nextAt, isPlaceOf}
+use Rattle.cycle.specs.Record.{cycleAt, isNext}
 use Rattle.cycle.specs.Calls.{zeroRows, cleared, fresh, started, startCall, countedRows, flaggedRows, totalledBlocks, resetRows, stepMatches}
 use Rattle.cycle.specs.Calls.{steppedMemory, stepped, stepCall}
 use Rattle.cycle.specs.Run.{run}
@@ -20,7 +21,7 @@ use Rattle.panel.specs.Examples.{ExamplesClaim, examples}
 pub examplesClaim : ExamplesClaim
 unfolding
     examples run calling zeroRows cleared fresh driftCall startCall stepCall started stepped steppedMemory drifted countedRows flaggedRows totalledBlocks
-    resetRows stepMatches entryAt cycleAt isNext cellCount blocksOf blockAt countFlagged blockTotals rowAt rowMatch matchBytes counted flagged reset factors
+    resetRows stepMatches entryAt nextAt isPlaceOf cycleAt isNext cellCount blocksOf blockAt countFlagged blockTotals rowAt rowMatch matchBytes counted flagged reset factors
     ofDigit ofCheck schedule unitVector testVector matchByte weight ofWeight columnOrder eligible ruleColumns checkColumns matrix support digit levels largest
     limit redundancy checks columns firstNonzero panelReading panelCall
 examplesClaim = refl

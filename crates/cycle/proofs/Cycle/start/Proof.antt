@@ -10,9 +10,10 @@ use Rattle.shape.specs.Shapes.{checkedSays, sizesIf}
 use Rattle.shape.proofs.Refusals.{told, fails, Passes, passes, answer-tells, answer-then}
 use Rattle.array_memory.specs.Memory.{Memory, withRows, noMemory, rowsQuestions}
 use Rattle.array_memory.proofs.Asked.{skip-taken, RowsTaken, rows-taken}
-use Rattle.cycle.specs.Record.{cycleAt}
+use Rattle.cycle.specs.Record.{openAt, cycleAt}
 use Rattle.cycle.specs.Calls.{zeroRows, startArguments, startQuestions, started, startCall}
 use Rattle.cycle.proofs.MatrixPart.{Part, columns-part}
+use Rattle.cycle.proofs.CycleRecord.{lookups-some, record-open}
 use Rattle.cycle.proofs.Given.{gives-refusal, gives-done}
 use Rattle.cycle.proofs.Cycle.start.Statement.{statement}
 use Rattle.cycle.proofs.Cycle.start.Tie as tie
@@ -101,7 +102,10 @@ slice-aggregate-first c = matrix-lent (c .before) .sized
 first-requires : tie.Need-first-requires
 first-requires c κs =
     let sizes = sized (filled (c .before)) in
-    (given sizes .taken, parts sizes .0, matrix-lent (c .before) .holds)
+    (given sizes .taken, matrix-lent (c .before) .holds)
+
+open-requires : tie.Need-open-requires
+open-requires c κs = search needs
 
 done-requires : tie.Need-done-requires
 done-requires c κs = search needs
@@ -127,7 +131,8 @@ same-length-3 c = search needs
 returns-2 : tie.Need-returns-2
 unfolding startCall started zeroRows
 returns-2 c =
-    let reset = filled (c .before .before .before) in
+    let first = c .before .before in
+    let reset = filled (first .before .before) in
     let sizes = sized reset in
     let start = begun sizes in
     let z = given sizes .sized in
@@ -135,8 +140,16 @@ returns-2 c =
     let counters = reset .reset-rows .ensures .0 ∙ ap zeros (z .counters) in
     let flags = reset .reset-rows .ensures .1 .0 ∙ ap zeros (z .flags) in
     let totals = reset .reset-rows .ensures .1 .1 ∙ ap zeros (z .totals) in
+    let s = start .args .shape in
+    let skip = start .args .skip in
+    let t = given sizes .taken in
+    let lt = parts sizes .0 in
+    let cycle =
+    record-open skip s t 0 (lookups-some skip s t lt)
+    ∙ ap (λ place. openAt skip place 0) (first .first .ensures skip lt)
+    ∙ sym (c .before .«open» .ensures) in
     λ mem. gives-done (questions start) [] (lent start mem) (start .args .self) _ [] [] _ _ (cycleAt (start .args .skip) (start .args .shape) 0) _ (asked sizes .none)
-    (c .done .ensures) refl (sym (λ i. withRows (counters i) (flags i) (totals i) mem)) (sym (c .before .first .ensures))
+    (c .done .ensures) refl (sym (λ i. withRows (counters i) (flags i) (totals i) mem)) cycle
 
 pub start-spec : {M : Type 1} → statement M
 start-spec =
@@ -152,6 +165,7 @@ start-spec =
     array-share-prefix-matrix
     slice-aggregate-first
     first-requires
+    open-requires
     done-requires
     returns
     same-length

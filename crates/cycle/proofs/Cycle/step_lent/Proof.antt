@@ -1,4 +1,4 @@
--- `cycle::Cycle::step_lent` meets its contract: `locate` asks 9, `advance` moves the record on, `look_and_count` makes the lookup.
+-- `cycle::Cycle::step_lent` meets its contract: `locate` asks 9, the record is moved on to the place that `advance` gives, `look_and_count` makes the lookup.
 -- Assumes nothing.
 use mathlib.Core.Path.{_≡_, refl, sym, ap, _∙_}
 use mathlib.Core.Bool.{Bool, true, false, cond}
@@ -11,14 +11,17 @@ use borrow.Author.Needs.{needs}
 use borrow.Author.Tests.{eqb-true}
 use Rattle.parity.specs.Questions.{Question, firstNo, callQuestions, Taken}
 use Rattle.parity.proofs.Taken.{first-yes}
+use Rattle.parity.proofs.Longest.{lookups-high}
 use Rattle.shape.proofs.Refusals.{first-rest}
 use Rattle.array_memory.specs.Memory.{Memory, withRows, withAll, noMemory}
 use Rattle.array_memory.proofs.Asked.{MemoryTaken, memory-taken}
-use Rattle.cycle.specs.Record.{cycleAt, isNext, cycleQuestion}
-use Rattle.cycle.specs.Places.{standingAt}
+use Rattle.cycle_place.specs.Places.{nextAt}
+use Rattle.cycle_place.specs.Walk.{standingAt}
+use Rattle.cycle_place.specs.declared.walk.Standing.{Standing}
+use Rattle.cycle_place.specs.declared.walk.Located.the-variants.{At, Elsewhere}
+use Rattle.cycle.specs.Record.{recordAt, cycleAt, isNext, cycleQuestion}
 use Rattle.cycle.specs.Calls.{stepArguments, lentQuestions, stepped, stepCall}
-use Rattle.cycle.specs.declared.place.Standing.{Standing}
-use Rattle.cycle.specs.declared.place.Located.the-variants.{At, Elsewhere}
+use Rattle.cycle.proofs.CycleRecord.{next-record, next-phase, next-place}
 use Rattle.cycle.proofs.MatrixPart.{Part, columns-part}
 use Rattle.cycle.proofs.Given.{gives-refusal, gives-done}
 use Rattle.cycle.proofs.Cycle.step_lent.Statement.{statement}
@@ -52,7 +55,7 @@ abbrev made : tie.After-locate → tie.After-matrix-of
 made c = c .before .before
 
 abbrev lending : tie.After-look-and-count-arg4 → tie.After-standing
-lending c = c .before .before .before .before .before .before
+lending c = c .before .before .before .before .before .before .before .before
 
 abbrev looked : tie.After-done → tie.After-look-and-count
 looked c = c .before .before .before .before .before .before .before .before .before
@@ -103,10 +106,21 @@ enum-known-standing c = search needs
 
 advance-requires : tie.Need-advance-requires
 advance-requires c κs =
-    let standing = c .before in
+    let standing = c .before .before in
     let matrix = made (standing .before .before) in
     let start = begun matrix in
-    ((taken start, start .pre .1, matrix-lent matrix .holds), place-found standing)
+    let s = start .args .shape in
+    let found = place-found standing in
+    ((taken start, start .pre .1, matrix-lent matrix .holds), (next-place s (taken start) (start .args .self) (found .0) .0, found .1))
+
+moved-requires : tie.Need-moved-requires
+moved-requires c κs =
+    let standing = c .before .before .before in
+    let start = begun (made (standing .before .before)) in
+    let self = start .args .self in
+    let s = start .args .shape in
+    let next = place-found standing .0 in
+    (next-phase s (taken start) self next, omega (arith, next-record s (taken start) self next .0, lookups-high (self .skip) s (taken start)))
 
 look-and-count-requires : tie.Need-look-and-count-requires
 look-and-count-requires c κs =
@@ -141,18 +155,23 @@ same-length-4 : tie.Need-same-length-4
 same-length-4 c = search needs
 
 returns-2 : tie.Need-returns-2
-unfolding stepCall stepped
+unfolding stepCall stepped cycleAt
 returns-2 c =
     let counted = looked c in
-    let advanced = counted .before .before .before .before .before in
-    let standing = advanced .before .before in
+    let moved = counted .before .before .before .before .before in
+    let advanced = moved .before in
+    let standing = advanced .before .before .before in
     let start = begun (made (standing .before .before)) in
     let args = start .args in
     let own : firstNo (more start) ≡ 0 = rw (place-found standing .0) refl in
+    let cycle = args .self in
+    let index = next-place (args .shape) (taken start) cycle (place-found standing .0) .1 in
+    let next = moved .moved .ensures
+    ∙ ap (λ n. recordAt (cycle .skip) n (suc (cycle .count))) (advanced .advance .ensures ∙ ap (λ c. nextAt (cycle .skip) (args .shape) (suc c)) index) in
     λ mem. gives-done _ (args .matches .now) (lent start mem) (args .self) _ _ _ _ _ (cycleAt (args .self .skip) (args .shape) (suc (args .self .count))) _
     (first-rest (first start) (more start) refl (start .pre .0) ∙ own) (c .done .ensures)
     (counted .look-and-count .ensures .0 (withRows (args .counters .now) (args .flags .now) (args .totals .now) mem)) (counted .look-and-count .ensures .1 mem)
-    (sym (advanced .advance .ensures))
+    (sym next)
 
 pub step-lent-spec : {M : Type 1} → statement M
 step-lent-spec =
@@ -166,6 +185,7 @@ step-lent-spec =
     refused-requires
     enum-known-standing
     advance-requires
+    moved-requires
     look-and-count-requires
     done-requires
     returns

@@ -15,7 +15,7 @@ use Rattle.array_memory.specs.Blocks.{blocksOf}
 use Rattle.array_memory.specs.Memory.{Memory, withCells, withRows, withAll, noMemory, cellCount}
 use Rattle.cycle.specs.Record.{nextEntry}
 use Rattle.cycle.specs.Calls.{State, stateOf, stepMatches, steppedMemory}
-use Rattle.cycle.proofs.Places.{next-place}
+use Rattle.cycle.proofs.CycleRecord.{next-place}
 use Rattle.cycle.proofs.StepPasses.{next-proper, next-rank, next-ends, next-resets, step-matches, step-matches-low}
 use Rattle.cycle.proofs.StepPasses.{tally, tally-made, counters-kept, counters-reset, flags-kept, flags-set, totals-kept, totals-counted}
 use Rattle.cycle.proofs.passes.look_and_count.Statement.{statement}

@@ -1,0 +1,86 @@
+-- The places of the schedule by their index: a place is that of the lookup after c others exactly where it is one of the schedule and has index c.
+-- Assumes nothing.
+use mathlib.Core.Path.{_≡_, refl, sym, ap, subst, _∙_}
+use mathlib.Core.Bool.{true, cond, and-eq-true-iff}
+use Prim.Native.Nat.{ℕ, _≤_, _<_}
+use lib.Dec.{eqb, ltb}
+use lib.ListN.{length}
+use borrow.Author.Tests.{eqb-true, eq-eqb, ltb-true, lt-ltb, le-ltb}
+use Rattle.parity.specs.Matrix.{lookups}
+use Rattle.parity.specs.Questions.{Taken}
+use Rattle.parity.specs.declared.Shape.{Shape}
+use Rattle.schedule.specs.Schedule.{within, schedule}
+use Rattle.schedule.specs.Index.{entryOf}
+use Rattle.schedule.proofs.Length.{lengthClaim}
+use Rattle.schedule.proofs.Index.{indexClaim}
+use Rattle.cycle_place.specs.Places.{placeOf, entryAt, nextAt, samePlace, isPlaceOf}
+use Rattle.cycle_place.specs.Walk.{Stands, indexOf}
+use Rattle.cycle_place.specs.declared.Place.{Place}
+use Rattle.cycle_place.specs.declared.walk.Next.the-variants as nexts
+
+pub same-place : (p q : Place) → samePlace p q ≡ true → p ≡ q
+same-place p q e =
+    let four = and-eq-true-iff _ (eqb (p .factor) (q .factor)) .0 e in
+    let three = and-eq-true-iff _ (eqb (p .column) (q .column)) .0 (four .0) in
+    let two = and-eq-true-iff (eqb (p .check) (q .check)) (eqb (p .digit) (q .digit)) .0 (three .0) in
+    let check = eqb-true (p .check) (q .check) (two .0) in
+    let digit = eqb-true (p .digit) (q .digit) (two .1) in
+    let column = eqb-true (p .column) (q .column) (three .1) in
+    let factor = eqb-true (p .factor) (q .factor) (four .1) in
+    λ i. record { check = check i; digit = digit i; column = column i; factor = factor i }
+
+place-same : (p : Place) → samePlace p p ≡ true
+place-same p =
+    simp (
+      eq-eqb (p .check) (p .check) refl,
+      eq-eqb (p .digit) (p .digit) refl,
+      eq-eqb (p .column) (p .column) refl,
+      eq-eqb (p .factor) (p .factor) refl,
+    )
+
+-- a place of the schedule that has index c
+abbrev pub AtPlace : ℕ → Shape → ℕ → Place → Type 0
+AtPlace z s c p = Stands z s p × (indexOf z s p ≡ c)
+
+module _ (z : ℕ) (s : Shape) (t : Taken s) (c : ℕ) where
+  -- the lookup after c others is at the place that has this index ..
+  pub place-entry :
+      (p : Place) → AtPlace z s c p → (c < lookups z s) × (entryAt z s c ≡ entryOf z s (p .check) (p .digit) (p .column) (p .factor))
+  unfolding entryAt
+  place-entry p at =
+      let stands = indexClaim z s t .stands (p .check) (p .digit) (p .column) (p .factor) (at .0) in
+      (rw (at .1, lengthClaim z s t) at (stands .0), ap (entryAt z s) (sym (at .1)) ∙ stands .1 (within 0 0 0 0))
+
+  pub place-next : (p : Place) → AtPlace z s c p → nextAt z s c ≡ nexts.Place p
+  unfolding nextAt
+  place-next p at =
+      let entry = place-entry p at in
+      rw (lt-ltb c (length (schedule z s)) (rw (lengthClaim z s t) (entry .0))) (ap (λ e. nexts.Place (placeOf e)) (entry .1))
+
+  -- .. and there is none from the cycle's length on
+  pub place-end : lookups z s ≤ c → nextAt z s c ≡ nexts.End
+  unfolding nextAt
+  place-end h = rw (le-ltb c (length (schedule z s)) (rw (lengthClaim z s t) h)) refl
+
+  -- the test of a place
+  pub is-place : c < lookups z s → isPlaceOf z s c (placeOf (entryAt z s c)) ≡ true
+  unfolding isPlaceOf
+  is-place h = simp (lt-ltb c (length (schedule z s)) (rw (lengthClaim z s t) h), place-same (placeOf (entryAt z s c)))
+
+  pub place-is : (p : Place) → isPlaceOf z s c p ≡ true → (c < lookups z s) × (p ≡ placeOf (entryAt z s c))
+  unfolding isPlaceOf
+  place-is p e =
+      let both = and-eq-true-iff (ltb c (length (schedule z s))) (samePlace p (placeOf (entryAt z s c))) .0 e in
+      (rw (lengthClaim z s t) at (ltb-true c (length (schedule z s)) (both .0)), same-place p (placeOf (entryAt z s c)) (both .1))
+
+  pub place-at : (p : Place) → isPlaceOf z s c p ≡ true → AtPlace z s c p
+  place-at p e =
+      let (h, same) = place-is p e in
+      let (ℓ, d, j, a, stands, index) = indexClaim z s t .found c (rw (lengthClaim z s t) h) in
+      let q : Place = record { check = ℓ; digit = d; column = j; factor = a } in
+      subst (AtPlace z s c) (sym (same ∙ ap placeOf (place-entry q (stands, index) .1))) (stands, index)
+
+  pub at-place : (p : Place) → AtPlace z s c p → isPlaceOf z s c p ≡ true
+  at-place p at =
+      let entry = place-entry p at in
+      subst (λ q. isPlaceOf z s c q ≡ true) (ap placeOf (entry .1)) (is-place (entry .0))

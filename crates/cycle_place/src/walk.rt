@@ -1,0 +1,142 @@
+// The walk through the schedule: whether a place is that of the lookup after so many others, and the place that comes next.
+use super::Place;
+use super::columns::next_held;
+use super::columns::survey_check;
+use super::factors::index_of;
+use super::factors::is_factor;
+use super::factors::next_factor;
+use super::factors::scale;
+use acam::order::power_of_two;
+use parity::Shape;
+use shape::byte::wide;
+use shape::sizes::Sizes;
+ghost use mathlib.Core.Path.{_≡_};
+ghost use Prim.Native.Nat.{ℕ, suc, _<_};
+ghost use Rattle.parity.specs.Matrix.{matrix as matrixOf};
+ghost use Rattle.parity.specs.Questions.{Taken};
+ghost use Rattle.shape.specs.Shapes.{sizesOf};
+ghost use Rattle.cycle_place.specs.Places.{placeOf, entryAt, nextAt};
+ghost use Rattle.cycle_place.specs.Walk.{Stands, indexOf, standingAt, locatedAt};
+
+// Where a place stands in its check row and digit: q / ρ^s, |J(ℓ)|, and the columns of J(ℓ) before its own.
+pub struct Standing {
+    pub span: usize,
+    pub size: usize,
+    pub rank: usize,
+}
+
+pub enum Located {
+    At(Standing),
+    Elsewhere,
+}
+
+// The place of a next lookup, or that there is none.
+pub enum Next {
+    Place(Place),
+    End,
+}
+
+// Whether the lookup at a place is the one that comes after so many others, and where it stands.
+pub fn locate(
+    place: Place,
+    skip: usize,
+    count: usize,
+    shape: Shape,
+    sizes: Sizes,
+    matrix: &[u8],
+) -> Located
+    requires { ⌜ Taken shape × (sizes ≡ sizesOf shape) × (now matrix ≡ matrixOf shape) ⌝ }
+    ensures { λ r. ⌜ r ≡ locatedAt skip shape count place ⌝ }
+{
+    let check = place.check;
+    let digit = place.digit;
+    let column = place.column;
+    let factor = place.factor;
+    let radix = shape.radix;
+    if sizes.checks <= check {
+        return Located::Elsewhere;
+    }
+    if shape.digits <= digit {
+        return Located::Elsewhere;
+    }
+    if digit < skip {
+        return Located::Elsewhere;
+    }
+    if matrix.len() <= column {
+        return Located::Elsewhere;
+    }
+    if wide(matrix[column]) / power_of_two(check) % 2 == 0 {
+        return Located::Elsewhere;
+    }
+    let next = scale(1, radix, shape.digits - digit - 1);
+    let span = next * radix;
+    if !is_factor(factor, span, radix) {
+        return Located::Elsewhere;
+    }
+    let survey = survey_check(matrix, check, column);
+    // q / ρ^z
+    let levels = scale(span, radix, digit - skip);
+    if index_of(levels, radix, factor, next, survey) != count {
+        return Located::Elsewhere;
+    }
+    Located::At(Standing {
+        span,
+        size: survey.size,
+        rank: survey.rank,
+    })
+}
+
+// The place of a cycle's first lookup, whatever digits it skips.
+pub fn first(shape: Shape, matrix: &[u8]) -> Place
+    requires { ⌜ Taken shape × (now matrix ≡ matrixOf shape) ⌝ }
+    ensures { λ r. ⌜ ((z : ℕ) → z < shape .digits → placeOf (entryAt z shape 0) ≡ r) ⌝ }
+{
+    let digits = shape.digits;
+    Place {
+        check: 0,
+        digit: digits - 1,
+        column: next_held(matrix, 0, 0),
+        factor: 1,
+    }
+}
+
+// The place after one of the schedule.
+pub fn advance(
+    place: Place,
+    skip: usize,
+    shape: Shape,
+    sizes: Sizes,
+    matrix: &[u8],
+    standing: Standing,
+) -> Next
+    requires { ⌜ Taken shape × (sizes ≡ sizesOf shape) × (now matrix ≡ matrixOf shape) ⌝ }
+    requires { ⌜ Stands skip shape place × (standing ≡ standingAt shape place) ⌝ }
+    ensures { λ r. ⌜ r ≡ nextAt skip shape (suc (indexOf skip shape place)) ⌝ }
+{
+    let mut next = place;
+    let check = place.check;
+    let digit = place.digit;
+    let column = place.column;
+    let factor = next_factor(place.factor, shape.radix);
+    if factor < standing.span {
+        next.factor = factor;
+        return Next::Place(next);
+    }
+    next.factor = 1;
+    if standing.rank + 1 < standing.size {
+        next.column = next_held(matrix, check, column + 1);
+        return Next::Place(next);
+    }
+    if skip < digit {
+        next.digit = digit - 1;
+        next.column = next_held(matrix, check, 0);
+        return Next::Place(next);
+    }
+    if check + 1 < sizes.checks {
+        next.check = check + 1;
+        next.digit = shape.digits - 1;
+        next.column = next_held(matrix, check + 1, 0);
+        return Next::Place(next);
+    }
+    Next::End
+}
