@@ -1,7 +1,7 @@
 -- The cycle record of a number of digits skipped and a count: open below the cycle's length and complete from it on; and the records that
 -- question 9 takes. Assumes nothing.
 use mathlib.Core.Path.{_≡_, refl, sym, ap, _∙_}
-use mathlib.Core.Bool.{Bool, true, false, cond, _&&_, and-eq-true-iff, false≢true}
+use mathlib.Core.Bool.{true, false, _&&_, and-eq-true-iff, false≢true}
 use Prim.Native.Nat.{ℕ, suc, _-_, _≤_, _<_}
 use native.Mathlib.Nat.{one-le-mul}
 use native.Mathlib.Omega.{arith}

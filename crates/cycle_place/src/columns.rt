@@ -10,10 +10,10 @@ ghost use Rattle.cycle_place.specs.Survey.{surveyOf, heldFrom};
 
 // What the matrix tells of check row ℓ and column j: the ones in the check rows before ℓ, those in ℓ, and
 // those in ℓ before j.
-pub struct Survey {
-    pub before: usize,
-    pub size: usize,
-    pub rank: usize,
+pub(crate) struct Survey {
+    pub(crate) before: usize,
+    pub(crate) size: usize,
+    pub(crate) rank: usize,
 }
 
 // A column has a one in check row ℓ if it shares a bit with this.
@@ -41,7 +41,7 @@ fn count_held(matrix: &[u8], check: usize) -> usize
     wide(count)
 }
 
-pub fn survey_check(matrix: &[u8], check: usize, column: usize) -> Survey
+pub(crate) fn survey_check(matrix: &[u8], check: usize, column: usize) -> Survey
     requires { ⌜ (length (now matrix) ≤ 255) × (check < 8) × (column ≤ length (now matrix)) ⌝ }
     ensures { λ r. ⌜ r ≡ surveyOf (was matrix) check column ⌝ }
 {
@@ -57,7 +57,7 @@ pub fn survey_check(matrix: &[u8], check: usize, column: usize) -> Survey
 }
 
 // The first column from a place on with a one in check row ℓ, or their number where there is none.
-pub fn next_held(matrix: &[u8], check: usize, from: usize) -> usize
+pub(crate) fn next_held(matrix: &[u8], check: usize, from: usize) -> usize
     requires { ⌜ (check < 8) × (from ≤ length (now matrix)) ⌝ }
     ensures { λ r. ⌜ r ≡ heldFrom (was matrix) check from ⌝ }
 {

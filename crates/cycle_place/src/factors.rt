@@ -21,7 +21,7 @@ pub fn scale(number: usize, radix: usize, exponent: usize) -> usize
 }
 
 // Whether a factor is one of those of a digit: from 1 below q / ρ^s, and not divided by ρ.
-pub fn is_factor(factor: usize, span: usize, radix: usize) -> bool
+pub(crate) fn is_factor(factor: usize, span: usize, radix: usize) -> bool
     requires { ⌜ 0 < radix ⌝ }
     ensures { λ r. ⌜ r ≡ leb 1 factor && ltb factor span && not (eqb (factor % radix) 0) ⌝ }
 {
@@ -35,7 +35,7 @@ pub fn is_factor(factor: usize, span: usize, radix: usize) -> bool
 }
 
 // The factor after one that ρ does not divide.
-pub fn next_factor(factor: usize, radix: usize) -> usize
+pub(crate) fn next_factor(factor: usize, radix: usize) -> usize
     requires { ⌜ (factor < 256) × (0 < radix) ⌝ }
     ensures { λ r. ⌜ r ≡ cond (eqb ((factor + 1) % radix) 0) (factor + 2) (factor + 1) ⌝ }
 {
@@ -45,8 +45,15 @@ pub fn next_factor(factor: usize, radix: usize) -> usize
     factor + 1
 }
 
-// How many lookups of the schedule come before a place, where next is q / ρ^(s+1).
-pub fn index_of(levels: usize, radix: usize, factor: usize, next: usize, survey: Survey) -> usize
+// How many lookups of the schedule come before a place, where levels is q / ρ^z, as many as the cycle tells apart, and next
+// is q / ρ^(s+1).
+pub(crate) fn index_of(
+    levels: usize,
+    radix: usize,
+    factor: usize,
+    next: usize,
+    survey: Survey,
+) -> usize
     requires { ⌜ ((1 ≤ levels) × (levels ≤ 256)) × (0 < radix) × ((factor < 256) × (factor % radix ≢ 0))
         × ((0 < next) × (next * radix ≤ 256)) × ((survey .before ≤ 2040) × (survey .size ≤ 255) × (survey .rank ≤ 255)) ⌝ }
     ensures { λ r. ⌜ r ≡ (levels - 1) * survey .before + survey .size * (next - 1)

@@ -1,6 +1,6 @@
 // The place of a lookup in the schedule, as a step works it out: passes over the columns, the numbers of the place, and
 // the walk from place to place.
-pub mod columns;
+mod columns;
 pub mod factors;
 pub mod walk;
 

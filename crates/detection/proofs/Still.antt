@@ -9,7 +9,6 @@ use lib.Seq.{getD-take, getD-drop, ext-getD}
 use Rattle.parity.specs.Lists.{tabulate}
 use Rattle.parity.specs.Shape.{levels, columns}
 use Rattle.parity.specs.Matrix.{lookups}
-use Rattle.parity.specs.Codeword.{isCodeword}
 use Rattle.parity.specs.Claims.{Below}
 use Rattle.parity.specs.Questions.{Taken}
 use Rattle.parity.specs.declared.Shape.{Shape}

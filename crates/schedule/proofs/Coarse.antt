@@ -3,21 +3,21 @@
 use mathlib.Core.Path.{_≡_, refl, sym, ap, ap₂, _∙_}
 use mathlib.Core.Bool.{Bool, true, false, cond, false≢true}
 use mathlib.Core.List.{List, [], _∷_, map}
-use Prim.Native.Nat.{ℕ, suc, _+_, _-_, _*_, _/_, _%_, _^_, _≤_, _<_}
+use Prim.Native.Nat.{ℕ, suc, _+_, _-_, _/_, _%_, _^_, _≤_, _<_}
 use native.Mathlib.Nat.{zero-div, div-div-eq-div-mul, div-lt-iff-lt-mul, div-one, pow-zero, one-le-pow, pow-le-pow-right, le-trans}
 use native.Mathlib.Omega.{arith}
 use lib.Dec.{eqb}
 use lib.ListN.{length, getD, length-map, List·getD-map}
 use lib.Pow.{pow-add}
 use borrow.Author.Tests.{eqb-true, eq-eqb}
-use Rattle.parity.specs.Lists.{sumOver, differences}
+use Rattle.parity.specs.Lists.{differences}
 use Rattle.parity.specs.Shape.{digit, levels, checks, columns}
 use Rattle.parity.specs.Matrix.{matrix, support}
 use Rattle.parity.specs.Codeword.{digitSum, Codeword}
 use Rattle.parity.specs.Claims.{Below}
 use Rattle.parity.specs.Questions.{Taken}
 use Rattle.parity.specs.declared.Shape.{Shape}
-use Rattle.parity.proofs.Taken.{Limits, limits, taken}
+use Rattle.parity.proofs.Taken.{limits, taken}
 use Rattle.parity.proofs.Distance.{distanceClaim}
 use Rattle.schedule.specs.Coarse.{floors, BalancedFrom}
 

@@ -11,7 +11,7 @@ use lib.Dec.{eqb, leb, ltb}
 use lib.ListN.{length, getD, take, length-take}
 use lib.Pow.{pow-pos}
 use borrow.Author.Needs.{needs}
-use borrow.Author.Tests.{leb-true, ltb-true, eqb-false, le-leb, lt-ltb, ne-eqb, not-true, not-false, leb-false}
+use borrow.Author.Tests.{leb-true, ltb-true, eqb-false, le-leb, lt-ltb, ne-eqb, not-true, not-false}
 use Rattle.parity.specs.Shape.{checks, columns}
 use Rattle.parity.specs.Matrix.{bit, matrix, support}
 use Rattle.parity.specs.Questions.{Taken}
