@@ -75,7 +75,10 @@ calls! {
         matches: B,
     },
     /// Start a cycle.
-    Start,
+    Start {
+        /// The number of low digits that it skips.
+        skip: usize,
+    },
     /// Make the next step of the cycle.
     Step {
         /// The match bytes.
@@ -83,6 +86,8 @@ calls! {
     },
     /// Run one whole cycle.
     Run {
+        /// The number of low digits that it skips.
+        skip: usize,
         /// The match bytes.
         matches: B,
     },
@@ -139,11 +144,12 @@ impl<B> Call<B> {
                 inputs,
                 matches: change(matches),
             },
-            Call::Start => Call::Start,
+            Call::Start { skip } => Call::Start { skip },
             Call::Step { matches } => Call::Step {
                 matches: change(matches),
             },
-            Call::Run { matches } => Call::Run {
+            Call::Run { skip, matches } => Call::Run {
+                skip,
                 matches: change(matches),
             },
             Call::Panel => Call::Panel,
@@ -214,9 +220,9 @@ pub fn make<S: Bytes, B: Bytes>(
     match call {
         Call::Clear => keep(array::clear(shape, state.lend(), now)),
         Call::Program { row, levels } => keep(array::program(shape, cells, *row, levels, now)),
-        Call::Start => keep(cycle::start(shape, state.lend(), now)),
+        Call::Start { skip } => keep(cycle::start(shape, *skip, state.lend(), now)),
         Call::Step { matches } => keep(cycle::step(shape, state.lend(), matches, now)),
-        Call::Run { matches } => keep(cycle::run(shape, state.lend(), matches, now)),
+        Call::Run { skip, matches } => keep(cycle::run(shape, *skip, state.lend(), matches, now)),
         Call::Drift { row, column, level } => {
             Answer::done(array::drift(shape, cells, *row, *column, *level))
         }

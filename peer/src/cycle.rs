@@ -1,9 +1,10 @@
 //! The detection cycle: its record, start, step, and one whole cycle.
 //!
-//! Schedule: checks ℓ upwards; within it digits s from the highest down;
+//! Schedule: checks ℓ upwards; within it digits s from the highest down to z;
 //! within it the columns j of J(ℓ) upwards; within it the factors a from 1
 //! below q / ρ^s that ρ does not divide, upwards. The vector is a × ρ^s in
-//! column j and 0 elsewhere.
+//! column j and 0 elsewhere. The z low digits are skipped: a cycle with z = 0
+//! looks at all of them, a coarse one sees only what differs above.
 
 use crate::comparator::answers;
 use crate::matrix::ones_in_check;
@@ -38,6 +39,8 @@ pub struct Cycle {
     pub factor: usize,
     /// The number of steps made.
     pub count: usize,
+    /// z, the number of low digits that the cycle skips; 0 while it is idle.
+    pub skip: usize,
 }
 
 impl Cycle {
@@ -49,10 +52,11 @@ impl Cycle {
         column: 0,
         factor: 0,
         count: 0,
+        skip: 0,
     };
 
-    /// The record that a start leaves.
-    pub fn open(layout: &Layout) -> Cycle {
+    /// The record that a start leaves, with so many low digits to skip.
+    pub fn open(layout: &Layout, skip: usize) -> Cycle {
         Cycle {
             phase: Phase::Open,
             check: 0,
@@ -60,14 +64,16 @@ impl Cycle {
             column: next_in_support(layout, 0, 0),
             factor: 1,
             count: 0,
+            skip,
         }
     }
 
     /// The record that the last step leaves.
-    fn complete(count: usize) -> Cycle {
+    fn complete(count: usize, skip: usize) -> Cycle {
         Cycle {
             phase: Phase::Complete,
             count,
+            skip,
             ..Cycle::IDLE
         }
     }
@@ -79,9 +85,10 @@ impl Cycle {
     }
 
     /// How many vectors come before this record's one, or none where the
-    /// schedule has no such vector.
+    /// schedule of its z has no such vector.
     fn rank(&self, layout: &Layout) -> Option<usize> {
-        if self.check >= layout.checks() || self.digit >= layout.digits() {
+        let digits = self.skip..layout.digits();
+        if self.check >= layout.checks() || !digits.contains(&self.digit) {
             return None;
         }
         let radix = layout.radix();
@@ -91,7 +98,8 @@ impl Cycle {
         }
         let place = place_in_support(layout, self.check, self.column)?;
         let size = layout.support_size(self.check);
-        let earlier_checks = layout.weight_before(self.check) * (layout.levels() - 1);
+        let of_a_column = layout.levels_above(self.skip) - 1;
+        let earlier_checks = layout.weight_before(self.check) * of_a_column;
         let earlier_digits = size * (bound / radix - 1);
         let earlier_columns = place * (bound - bound / radix);
         let earlier_factors = self.factor - self.factor / radix - 1;
@@ -100,7 +108,7 @@ impl Cycle {
 
     /// The factors of the digit lie below this power of the radix.
     fn bound(&self, layout: &Layout) -> usize {
-        layout.radix().pow((layout.digits() - self.digit) as u32)
+        layout.levels_above(self.digit)
     }
 
     /// The only nonzero input of the vector, at most q − 1.
@@ -116,7 +124,7 @@ impl Cycle {
 
     /// Whether the vector is the last one of its check.
     fn ends_check(&self, layout: &Layout) -> bool {
-        self.digit == 0 && self.ends_digit(layout)
+        self.digit == self.skip && self.ends_digit(layout)
     }
 
     /// The record after one more step.
@@ -132,13 +140,13 @@ impl Cycle {
             next.column = next_in_support(layout, self.check, self.column + 1);
             return next;
         }
-        if self.digit > 0 {
+        if self.digit > self.skip {
             next.digit = self.digit - 1;
         } else if self.check + 1 < layout.checks() {
             next.check = self.check + 1;
             next.digit = layout.digits() - 1;
         } else {
-            return Cycle::complete(next.count);
+            return Cycle::complete(next.count, next.skip);
         }
         next.column = next_in_support(layout, next.check, 0);
         next
@@ -175,22 +183,29 @@ fn place_in_support(layout: &Layout, check: usize, column: usize) -> Option<usiz
     }
 }
 
-/// Starts a cycle: counters, flags and totals 0, record open with count 0. The
-/// cells are not its matter, and question 6 is not asked of them.
-pub fn start(shape: Shape, state: State<&mut [u8]>, cycle: Cycle) -> (Cycle, Result<(), Refusal>) {
-    match ask_start(shape, &state) {
+/// Starts a cycle that skips so many low digits: counters, flags and totals 0,
+/// record open with count 0. The cells are not its matter, and question 6 is
+/// not asked of them.
+pub fn start(
+    shape: Shape,
+    skip: usize,
+    state: State<&mut [u8]>,
+    cycle: Cycle,
+) -> (Cycle, Result<(), Refusal>) {
+    match ask_start(shape, skip, &state) {
         Err(refusal) => (cycle, Err(refusal)),
         Ok(layout) => {
             state.counters.fill(0);
             state.flags.fill(0);
             state.totals.fill(0);
-            (Cycle::open(&layout), Ok(()))
+            (Cycle::open(&layout, skip), Ok(()))
         }
     }
 }
 
-fn ask_start(shape: Shape, state: &State<&mut [u8]>) -> Result<Layout, Refusal> {
+fn ask_start(shape: Shape, skip: usize, state: &State<&mut [u8]>) -> Result<Layout, Refusal> {
     let layout = shape.layout()?;
+    layout.ask_skip(skip)?;
     layout.ask_length(state.counters, layout.rows())?;
     layout.ask_length(state.flags, layout.rows())?;
     layout.ask_length(state.totals, layout.blocks())?;
@@ -254,18 +269,30 @@ fn ask_lent(shape: Shape, state: &State<&mut [u8]>, matches: &[u8]) -> Result<La
 /// the last step. Question 9 is not asked, since a start takes any record.
 pub fn run(
     shape: Shape,
+    skip: usize,
     mut state: State<&mut [u8]>,
     matches: &mut [u8],
     cycle: Cycle,
 ) -> (Cycle, Result<(), Refusal>) {
-    if let Err(refusal) = ask_lent(shape, &state, matches) {
+    if let Err(refusal) = ask_run(shape, skip, &state, matches) {
         return (cycle, Err(refusal));
     }
-    let (mut now, mut answer) = start(shape, state.lend(), cycle);
+    let (mut now, mut answer) = start(shape, skip, state.lend(), cycle);
     while answer.is_ok() && now.phase == Phase::Open {
         (now, answer) = step(shape, state.lend(), matches, now);
     }
     (now, answer)
+}
+
+/// Question 15 comes before question 6.
+fn ask_run(
+    shape: Shape,
+    skip: usize,
+    state: &State<&mut [u8]>,
+    matches: &[u8],
+) -> Result<Layout, Refusal> {
+    shape.layout()?.ask_skip(skip)?;
+    ask_lent(shape, state, matches)
 }
 
 /// Feeds the record's vector. All columns but one are fed 0 and answer 1, so

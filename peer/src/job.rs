@@ -33,6 +33,9 @@ const COUNT: usize = 2;
 /// One drift.
 const DRIFT: usize = 4;
 
+/// The cycle of a job looks at all digits.
+const NO_SKIP: usize = 0;
+
 /// A job whose parts are all there; levels and drifts are not yet looked at.
 struct Parts<'a> {
     layout: Layout,
@@ -141,8 +144,9 @@ fn drift_of(bytes: &[u8]) -> Drift {
 
 /// Runs one cycle; gives the record it leaves.
 fn run_cycle(layout: &Layout, state: &mut State<Vec<u8>>) -> Result<Cycle, Refusal> {
+    let (shape, state) = (layout.shape(), state.lend());
     let mut matches = vec![0; layout.rows()];
-    let (cycle, answer) = cycle::run(layout.shape(), state.lend(), &mut matches, Cycle::IDLE);
+    let (cycle, answer) = cycle::run(shape, NO_SKIP, state, &mut matches, Cycle::IDLE);
     answer.map(|()| cycle)
 }
 

@@ -32,9 +32,9 @@ impl Array {
         make(self.shape, &mut self.state, &mut self.cycle, call)
     }
 
-    /// Starts a cycle.
-    pub fn start(&mut self) -> Answer {
-        self.make(&mut Call::<Vec<u8>>::Start)
+    /// Starts a cycle that skips so many low digits.
+    pub fn start(&mut self, skip: usize) -> Answer {
+        self.make(&mut Call::<Vec<u8>>::Start { skip })
     }
 
     /// Makes the next step of the cycle.

@@ -147,9 +147,13 @@ impl Layout {
             .sum()
     }
 
-    /// The number of vectors in a detection cycle.
-    pub fn lookups(&self) -> usize {
-        (self.levels() - 1) * self.weight()
+    /// The number of vectors in a detection cycle that skips so many low digits.
+    ///
+    /// # Panics
+    ///
+    /// If there are not more digits than that.
+    pub fn lookups(&self, skip: usize) -> usize {
+        (self.levels_above(skip) - 1) * self.weight()
     }
 }
 

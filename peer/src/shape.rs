@@ -37,6 +37,8 @@ pub enum Refusal {
     JobCells = 13,
     /// The job's levels or drifts are not all there, or bytes are left over.
     JobContents = 14,
+    /// A cycle is to skip as many low digits as there are, or more.
+    Skip = 15,
 }
 
 impl Refusal {
@@ -194,6 +196,18 @@ impl Layout {
         self.levels
     }
 
+    /// q / ρ^z, the number of levels that are told apart without their z low
+    /// digits.
+    ///
+    /// # Panics
+    ///
+    /// If there are not more digits than that.
+    #[inline]
+    pub fn levels_above(&self, skip: usize) -> usize {
+        assert!(skip < self.digits(), "no digit is left");
+        self.radix().pow((self.digits() - skip) as u32)
+    }
+
     /// r, the number of check columns.
     pub fn checks(&self) -> usize {
         self.checks
@@ -217,6 +231,15 @@ impl Layout {
     /// The rule columns of the parity-check matrix, in order.
     pub fn rules(&self) -> &'static [u8] {
         self.rules
+    }
+
+    /// Question 15 for a number of low digits to skip.
+    pub(crate) fn ask_skip(&self, skip: usize) -> Result<(), Refusal> {
+        if skip < self.digits() {
+            Ok(())
+        } else {
+            Err(Refusal::Skip)
+        }
     }
 
     /// Question 6 for one buffer.

@@ -5,11 +5,12 @@ use peer::testing::draw::{self, some_bytes, some_length, some_number, Draw};
 use peer::testing::lent::Own;
 use peer::testing::naive::calls::make;
 use peer::testing::naive::panel::blocks;
-use peer::testing::naive::spec::{questions, record, Spec};
+use peer::testing::naive::spec::{questions, Spec};
 use peer::testing::random::Random;
 use peer::testing::records::forged;
 use peer::testing::settings;
 use peer::testing::shapes::{any_shape, small_shape};
+use peer::testing::skips::Skips;
 use peer::testing::tally::Tally;
 use peer::{match_byte, Answer, Array, Cycle, Name, Shape, State};
 
@@ -20,6 +21,7 @@ struct Sizes {
     blocks: usize,
     width: usize,
     columns: usize,
+    digits: usize,
     levels: usize,
 }
 
@@ -33,6 +35,7 @@ impl Sizes {
                 blocks: blocks(spec.shape.rows),
                 width: spec.shape.width,
                 columns: spec.columns(),
+                digits: spec.shape.digits,
                 levels: spec.levels,
             },
             None => Sizes {
@@ -41,6 +44,7 @@ impl Sizes {
                 blocks: 1,
                 width: 3,
                 columns: 4,
+                digits: 3,
                 levels: 8,
             },
         }
@@ -55,6 +59,7 @@ struct Given {
     column: usize,
     level: u8,
     levels: Vec<u8>,
+    skip: usize,
 }
 
 impl Draw for Given {
@@ -80,38 +85,30 @@ impl Draw for Given {
         self.levels.clone()
     }
 
+    fn skip(&mut self) -> usize {
+        self.skip
+    }
+
     fn buffer(&mut self, own: Own) -> Vec<u8> {
         self.own[own as usize].clone()
     }
 }
 
-/// An array with buffers mostly of their lengths, and arguments mostly in
-/// range.
-fn drawn(random: &mut Random, shape: Shape) -> (Array, Given) {
-    let spec = questions(shape).ok();
-    let sizes = Sizes::new(spec.as_ref());
-    let cells = match &spec {
+/// Buffers mostly of their lengths.
+fn some_state(random: &mut Random, spec: Option<&Spec>, sizes: &Sizes) -> State<Vec<u8>> {
+    let cells = match spec {
         Some(spec) if random.one_in(2) => some_rows(random, spec),
-        _ => some_cells(random, &sizes),
+        _ => some_cells(random, sizes),
     };
-    let cycle = match &spec {
-        Some(spec) => some_record(random, spec),
-        None => forged(random, Cycle::IDLE),
-    };
-    let state = State {
+    State {
         cells,
         counters: some_bytes(random, sizes.rows),
         flags: some_marks(random, sizes.rows),
         totals: some_marks(random, sizes.blocks),
-    };
-    let array = Array {
-        shape,
-        state,
-        cycle,
-    };
-    (array, given(random, &sizes))
+    }
 }
 
+/// Arguments mostly in range.
 fn given(random: &mut Random, sizes: &Sizes) -> Given {
     let own = [
         some_bytes(random, sizes.rows),
@@ -134,6 +131,7 @@ fn given(random: &mut Random, sizes: &Sizes) -> Given {
             random.level(sizes.levels)
         },
         levels: random.levels(bound, length),
+        skip: some_number(random, sizes.digits),
     }
 }
 
@@ -179,26 +177,54 @@ fn some_rows(random: &mut Random, spec: &Spec) -> Vec<u8> {
     cells
 }
 
-/// Mostly a record of the schedule, else a forged one. Long schedules are not
-/// written out; their first record serves.
+/// A record of the schedule of any z, its last places often. Long schedules are
+/// not written out; their first record serves.
 fn some_record(random: &mut Random, spec: &Spec) -> Cycle {
-    let cycle = if spec.lookups() > 2000 {
-        Cycle::open(&spec.shape.layout().unwrap())
-    } else {
-        let schedule = spec.schedule();
-        record(&schedule, random.below(schedule.len() + 1))
+    let skip = random.below(spec.shape.digits);
+    let lookups = spec.lookups(skip);
+    if lookups > 2000 {
+        return Cycle::open(&spec.shape.layout().unwrap(), skip);
+    }
+    let count = match random.below(6) {
+        0 => lookups,
+        1 => lookups - 1,
+        _ => random.below(lookups),
     };
-    if random.one_in(3) {
-        forged(random, cycle)
-    } else {
-        cycle
+    spec.schedule(skip).record(count)
+}
+
+/// The record itself, a forged one, or one with another z.
+fn some_change(random: &mut Random, record: Cycle, sizes: &Sizes) -> Cycle {
+    match random.below(6) {
+        0 | 1 => forged(random, record),
+        2 | 3 => Cycle {
+            skip: some_number(random, sizes.digits),
+            ..record
+        },
+        _ => record,
     }
 }
 
+/// What the calls were answered, and what they did with skipped digits.
+#[derive(Debug, Default)]
+struct Seen {
+    tally: Tally,
+    skips: Skips,
+}
+
 /// Makes a call by this build and by the definitions, and compares.
-fn compare(random: &mut Random, shape: Shape, name: Name) -> Answer {
-    let (mut ours, mut given) = drawn(random, shape);
-    let mut call = draw::call(name, &mut given);
+fn compare(random: &mut Random, shape: Shape, name: Name, seen: &mut Seen) {
+    let spec = questions(shape).ok();
+    let spec = spec.as_ref();
+    let sizes = Sizes::new(spec);
+    let record = spec.map_or(Cycle::IDLE, |spec| some_record(random, spec));
+    let cycle = some_change(random, record, &sizes);
+    let mut ours = Array {
+        shape,
+        state: some_state(random, spec, &sizes),
+        cycle,
+    };
+    let mut call = draw::call(name, &mut given(random, &sizes));
     let before = (ours.clone(), call.clone());
     let (mut plain, mut plain_call) = before.clone();
     let answer = ours.make(&mut call);
@@ -208,16 +234,20 @@ fn compare(random: &mut Random, shape: Shape, name: Name) -> Answer {
         "{name:?} {shape:?}"
     );
     assert_eq!((&ours, &call), (&plain, &plain_call), "{name:?} {shape:?}");
+    seen.tally.add(name, answer);
+    seen.skips.add(name, answer, cycle, ours.cycle);
+    if name == Name::Step {
+        seen.skips.add_forged(answer, record, cycle);
+    }
     if let Answer::Refused(_) = answer {
         assert_eq!((ours, call), before, "{name:?} {shape:?}");
     }
-    answer
 }
 
 #[test]
 fn the_calls_do_what_the_definitions_say() {
     let mut random = settings::random(11);
-    let mut tally = Tally::default();
+    let mut seen = Seen::default();
     for turn in 0..2500 {
         let mut shape = any_shape(&mut random);
         if turn % 10 != 0 && shape.layout().is_ok() {
@@ -227,17 +257,17 @@ fn the_calls_do_what_the_definitions_say() {
             if name == Name::Run && is_long(shape) {
                 continue;
             }
-            let answer = compare(&mut random, shape, name);
-            tally.add(name, answer);
+            compare(&mut random, shape, name, &mut seen);
         }
     }
-    println!("{} calls: {tally:?}", tally.calls());
-    tally.assert_complete();
+    println!("{} calls: {seen:?}", seen.tally.calls());
+    seen.tally.assert_complete();
+    seen.skips.assert_each(8);
 }
 
 /// Whether a cycle on the shape looks at too many rows to be run here.
 fn is_long(shape: Shape) -> bool {
-    questions(shape).is_ok_and(|spec| spec.lookups() * shape.rows > 5_000)
+    questions(shape).is_ok_and(|spec| spec.lookups(0) * shape.rows > 5_000)
 }
 
 /// The rule of a match line on all pairs of a cell and an input.

@@ -2,12 +2,14 @@
 //! records that a step takes.
 
 use peer::testing::naive::calls::step_with;
-use peer::testing::naive::spec::{questions, record, Spec};
+use peer::testing::naive::schedule::Schedule;
+use peer::testing::naive::spec::{questions, Spec};
 use peer::testing::panels::foreign;
 use peer::testing::random::Random;
 use peer::testing::records::forged;
 use peer::testing::settings;
 use peer::testing::shapes::{limit_shape, short_cycle_shape, small_shape, BLOCK_EDGES};
+use peer::testing::skips::too_many;
 use peer::{Answer, Array, Cycle, Phase, Shape, State};
 
 const REFUSED: Answer = Answer::Refused(9);
@@ -69,17 +71,17 @@ fn meddle(random: &mut Random, shape: Shape, state: &mut State<Vec<u8>>) {
 /// Runs a whole cycle both ways and compares all that is lent after each step.
 /// Where it is `disturbed`, counters, flags and totals are overwritten now and
 /// then.
-fn compare_cycle(random: &mut Random, shape: Shape, disturbed: bool) {
+fn compare_cycle(random: &mut Random, shape: Shape, skip: usize, disturbed: bool) {
     let spec = questions(shape).unwrap();
-    let schedule = spec.schedule();
-    assert_eq!(schedule.len(), spec.lookups());
+    let schedule = spec.schedule(skip);
+    assert_eq!(schedule.lookups(), spec.lookups(skip));
     let mut ours = Stepped::drawn(random, &spec);
-    assert_eq!(ours.array.start(), Answer::Done);
-    assert_eq!(ours.array.cycle, record(&schedule, 0));
+    assert_eq!(ours.array.start(skip), Answer::Done);
+    assert_eq!(ours.array.cycle, schedule.record(0));
     let [_, zeros @ ..] = ours.array.state.each().into_array();
     assert!(zeros.into_iter().flatten().all(|&byte| byte == 0));
     let mut plain = ours.clone();
-    for _ in 0..schedule.len() {
+    for _ in 0..schedule.lookups() {
         if disturbed && random.one_in(3) {
             meddle(random, shape, &mut ours.array.state);
             plain.array.state = ours.array.state.clone();
@@ -87,11 +89,18 @@ fn compare_cycle(random: &mut Random, shape: Shape, disturbed: bool) {
         assert_eq!(ours.step(), Answer::Done);
         let Stepped { array, matches } = &mut plain;
         assert_eq!(step_with(&spec, &schedule, array, matches), Ok(()));
-        assert_eq!(ours, plain, "{shape:?}");
+        assert_eq!(ours, plain, "{shape:?} {skip}");
     }
     assert_eq!(ours.array.cycle.phase, Phase::Complete);
     assert_eq!(ours.step(), REFUSED);
     assert_eq!(ours, plain);
+}
+
+/// Whole cycles of every z.
+fn compare_cycles(random: &mut Random, shape: Shape, disturbed: bool) {
+    for skip in 0..shape.digits {
+        compare_cycle(random, shape, skip, disturbed);
+    }
 }
 
 #[test]
@@ -99,7 +108,7 @@ fn whole_cycles_on_small_shapes() {
     let mut random = settings::random(3);
     for _ in 0..400 {
         let shape = small_shape(&mut random);
-        compare_cycle(&mut random, shape, false);
+        compare_cycles(&mut random, shape, false);
     }
 }
 
@@ -108,7 +117,7 @@ fn whole_cycles_with_any_bytes_in_counters_flags_and_totals() {
     let mut random = settings::random(4);
     for _ in 0..200 {
         let shape = small_shape(&mut random);
-        compare_cycle(&mut random, shape, true);
+        compare_cycles(&mut random, shape, true);
     }
 }
 
@@ -121,7 +130,7 @@ fn whole_cycles_on_arrays_of_one_block_and_more() {
                 rows,
                 ..short_cycle_shape(&mut random, 60)
             };
-            compare_cycle(&mut random, shape, turn % 2 == 1);
+            compare_cycles(&mut random, shape, turn % 2 == 1);
         }
     }
 }
@@ -132,12 +141,19 @@ fn whole_cycles_at_the_limits() {
     for _ in 0..6 {
         let mut shape = limit_shape(&mut random);
         shape.rows = 2;
-        compare_cycle(&mut random, shape, false);
+        compare_cycle(&mut random, shape, 0, false);
+        compare_cycle(&mut random, shape, shape.digits - 1, true);
     }
-    for (radix, digits, errors, width) in [(2, 8, 2, 247), (255, 1, 1, 254), (16, 2, 3, 120)] {
+    for (radix, digits, errors, width, skips) in [
+        (2, 8, 2, 247, &[0, 4, 7][..]),
+        (255, 1, 1, 254, &[0]),
+        (16, 2, 3, 120, &[0, 1]),
+    ] {
         let shape = Shape::new(radix, digits, errors, width, 2);
-        compare_cycle(&mut random, shape, false);
-        compare_cycle(&mut random, shape, true);
+        for &skip in skips {
+            compare_cycle(&mut random, shape, skip, false);
+            compare_cycle(&mut random, shape, skip, true);
+        }
     }
 }
 
@@ -149,34 +165,37 @@ fn steps_on_many_rows() {
         let mut shape = limit_shape(&mut random);
         shape.rows = random.pick(&[256, 4095, 4096]);
         let spec = questions(shape).unwrap();
-        let schedule = spec.schedule();
+        let skip = random.below(shape.digits) * random.below(2);
+        let schedule = spec.schedule(skip);
+        let last = schedule.lookups() - 1;
         let mut ours = Stepped::drawn(&mut random, &spec);
-        for count in [0, random.below(schedule.len()), schedule.len() - 1] {
-            ours.array.cycle = record(&schedule, count);
+        for count in [0, random.below(last + 1), last] {
+            ours.array.cycle = schedule.record(count);
             let mut plain = ours.clone();
             assert_eq!(ours.step(), Answer::Done);
             let Stepped { array, matches } = &mut plain;
             assert_eq!(step_with(&spec, &schedule, array, matches), Ok(()));
-            assert_eq!(ours, plain, "{shape:?}");
+            assert_eq!(ours, plain, "{shape:?} {skip}");
         }
     }
 }
 
-/// All records in a box around those of a shape.
-fn records_around(spec: &Spec) -> Vec<Cycle> {
+/// All records in a box around those of a shape with one z.
+fn records_around(spec: &Spec, skip: usize) -> Vec<Cycle> {
     let mut records = Vec::new();
     for phase in [Phase::Idle, Phase::Open, Phase::Complete] {
         for check in 0..=spec.checks {
             for digit in 0..=spec.shape.digits {
                 for column in 0..=spec.columns() {
                     for factor in 0..=spec.levels {
-                        records.extend((0..=spec.lookups()).map(|count| Cycle {
+                        records.extend((0..=spec.lookups(0)).map(|count| Cycle {
                             phase,
                             check,
                             digit,
                             column,
                             factor,
                             count,
+                            skip,
                         }));
                     }
                 }
@@ -186,34 +205,37 @@ fn records_around(spec: &Spec) -> Vec<Cycle> {
     records
 }
 
-/// A step takes exactly the records of the schedule, and hands a refused one
-/// back. Gives how many were taken and refused.
-fn compare_records(shape: Shape) -> (usize, usize) {
-    let spec = questions(shape).unwrap();
-    let schedule = spec.schedule();
-    let legal: Vec<Cycle> = (0..schedule.len())
-        .map(|count| record(&schedule, count))
-        .collect();
-    let (mut taken, mut refused) = (0, 0);
-    let fresh = Stepped::drawn(&mut Random::new(7), &spec);
-    for cycle in records_around(&spec) {
+/// How many records a step took and refused.
+#[derive(Default)]
+struct Answers {
+    taken: usize,
+    refused: usize,
+}
+
+impl Answers {
+    /// A step with the record. It is taken exactly where the record awaits a
+    /// vector of one of the schedules, and then brings the next record; a
+    /// refused one leaves all as it was.
+    fn compare(&mut self, schedules: &[Schedule], fresh: &Stepped, cycle: Cycle) {
         let mut ours = fresh.with(cycle);
         let answer = ours.step();
-        if legal.get(cycle.count) == Some(&cycle) {
-            assert_eq!(answer, Answer::Done);
-            assert_eq!(ours.array.cycle, record(&schedule, cycle.count + 1));
-            taken += 1;
-        } else {
-            assert_eq!(answer, REFUSED, "{cycle:?}");
-            assert_eq!(ours, fresh.with(cycle));
-            refused += 1;
+        match schedules.iter().find(|schedule| schedule.awaits(&cycle)) {
+            Some(schedule) => {
+                assert_eq!(answer, Answer::Done, "{cycle:?}");
+                assert_eq!(ours.array.cycle, schedule.record(cycle.count + 1));
+                self.taken += 1;
+            }
+            None => {
+                assert_eq!(answer, REFUSED, "{cycle:?}");
+                assert_eq!(ours, fresh.with(cycle));
+                self.refused += 1;
+            }
         }
     }
-    (taken, refused)
 }
 
 #[test]
-fn a_step_takes_the_records_of_the_schedule_and_no_others() {
+fn a_step_takes_the_records_of_the_schedules_and_no_others() {
     for (radix, digits, errors, width) in [
         (2, 1, 1, 1),
         (2, 2, 2, 2),
@@ -222,18 +244,55 @@ fn a_step_takes_the_records_of_the_schedule_and_no_others() {
         (3, 1, 3, 1),
         (5, 1, 2, 1),
     ] {
-        let shape = Shape::new(radix, digits, errors, width, 1);
-        let (taken, refused) = compare_records(shape);
-        assert_eq!(taken, shape.layout().unwrap().lookups());
-        assert!(refused > taken);
+        let spec = questions(Shape::new(radix, digits, errors, width, 1)).unwrap();
+        let schedules: Vec<Schedule> = spec.schedules().collect();
+        let fresh = Stepped::drawn(&mut Random::new(7), &spec);
+        for skip in 0..digits + 2 {
+            let mut answers = Answers::default();
+            for cycle in records_around(&spec, skip) {
+                answers.compare(&schedules, &fresh, cycle);
+            }
+            let lookups = schedules.get(skip).map_or(0, Schedule::lookups);
+            assert_eq!(answers.taken, lookups);
+            assert!(answers.refused > lookups);
+        }
     }
+}
+
+/// The z of a record is changed in the middle of a cycle. The new one is taken
+/// only where a start with it leaves the same place and count: in the first
+/// check, down to the greater z.
+#[test]
+fn a_step_with_another_skip_in_its_record() {
+    let mut random = settings::random(26);
+    let mut answers = Answers::default();
+    for _ in 0..60 {
+        let spec = questions(small_shape(&mut random)).unwrap();
+        let digits = spec.shape.digits;
+        let schedules: Vec<Schedule> = spec.schedules().collect();
+        let fresh = Stepped::drawn(&mut random, &spec);
+        for schedule in &schedules {
+            for count in 0..schedule.lookups() {
+                let cycle = schedule.record(count);
+                let others = (0..digits).filter(|&skip| skip != schedule.skip);
+                for skip in others.chain(too_many(digits)) {
+                    let before = answers.taken;
+                    answers.compare(&schedules, &fresh, Cycle { skip, ..cycle });
+                    let alike = skip < digits && cycle.check == 0 && cycle.digit >= skip;
+                    assert_eq!(answers.taken > before, alike, "{cycle:?} {skip}");
+                }
+            }
+        }
+    }
+    let Answers { taken, refused } = answers;
+    assert!(taken > 1000 && refused > 1000, "{taken} {refused}");
 }
 
 /// Forged records at all sizes, with fields as large as they can be.
 #[test]
 fn forged_records_are_refused() {
     let mut random = settings::random(8);
-    let (mut taken, mut refused) = (0, 0);
+    let mut answers = Answers::default();
     for turn in 0..300 {
         let mut shape = if turn % 3 == 0 {
             limit_shape(&mut random)
@@ -242,23 +301,16 @@ fn forged_records_are_refused() {
         };
         shape.rows = shape.rows.min(3);
         let spec = questions(shape).unwrap();
-        let schedule = spec.schedule();
+        let schedules: Vec<Schedule> = spec.schedules().collect();
         for _ in 0..200 {
-            let count = random.below(schedule.len() + 1);
-            let cycle = forged(&mut random, record(&schedule, count));
-            let mut ours = Stepped::drawn(&mut random, &spec).with(cycle);
-            let before = ours.clone();
-            let legal = cycle.count < schedule.len() && cycle == record(&schedule, cycle.count);
-            if legal {
-                assert_eq!(ours.step(), Answer::Done);
-                taken += 1;
-            } else {
-                assert_eq!(ours.step(), REFUSED);
-                assert_eq!(ours, before);
-                refused += 1;
-            }
+            let schedule = &schedules[random.below(shape.digits)];
+            let count = random.below(schedule.lookups() + 1);
+            let cycle = forged(&mut random, schedule.record(count));
+            let fresh = Stepped::drawn(&mut random, &spec);
+            answers.compare(&schedules, &fresh, cycle);
         }
     }
+    let Answers { taken, refused } = answers;
     assert!(taken > 1000 && refused > 1000, "{taken} {refused}");
 }
 
@@ -266,17 +318,19 @@ fn forged_records_are_refused() {
 #[test]
 fn records_of_other_shapes() {
     let mut random = settings::random(9);
-    for _ in 0..300 {
-        let shape = small_shape(&mut random);
+    let mut answers = Answers::default();
+    for _ in 0..600 {
+        let spec = questions(small_shape(&mut random)).unwrap();
+        let schedules: Vec<Schedule> = spec.schedules().collect();
         let other = small_shape(&mut random);
-        let spec = questions(shape).unwrap();
-        let schedule = spec.schedule();
-        let foreign = questions(other).unwrap().schedule();
-        let count = random.below(foreign.len());
-        let mut ours = Stepped::drawn(&mut random, &spec).with(record(&foreign, count));
-        let legal = schedule.get(count) == foreign.get(count);
-        assert_eq!(ours.step(), if legal { Answer::Done } else { REFUSED });
+        let skip = random.below(other.digits);
+        let foreign = questions(other).unwrap().schedule(skip);
+        let count = random.below(foreign.lookups());
+        let fresh = Stepped::drawn(&mut random, &spec);
+        answers.compare(&schedules, &fresh, foreign.record(count));
     }
+    let Answers { taken, refused } = answers;
+    assert!(taken > 20 && refused > 100, "{taken} {refused}");
 }
 
 /// A start opens the cycle anew whatever the record, and a refused one hands
@@ -284,20 +338,31 @@ fn records_of_other_shapes() {
 #[test]
 fn a_start_from_any_record() {
     let mut random = settings::random(10);
-    for _ in 0..500 {
+    for turn in 0..600 {
         let shape = small_shape(&mut random);
         let spec = questions(shape).unwrap();
+        let before = spec.schedule(random.below(shape.digits));
+        let skip = random.below(shape.digits);
         let mut ours = Stepped::drawn(&mut random, &spec).array;
-        ours.cycle = forged(&mut random, record(&spec.schedule(), 1));
-        if random.one_in(2) {
-            ours.state.counters.push(7);
-            let before = ours.clone();
-            assert_eq!(ours.start(), Answer::Refused(6));
-            assert_eq!(ours, before);
-        } else {
-            assert_eq!(ours.start(), Answer::Done);
-            assert_eq!(ours.cycle, record(&spec.schedule(), 0));
-            assert_eq!(ours.cycle, Cycle::open(&shape.layout().unwrap()));
+        ours.cycle = forged(&mut random, before.record(1));
+        let old = ours.clone();
+        match turn % 3 {
+            0 => {
+                assert_eq!(ours.start(skip), Answer::Done);
+                assert_eq!(ours.cycle, spec.schedule(skip).record(0));
+                assert_eq!(ours.cycle, Cycle::open(&shape.layout().unwrap(), skip));
+            }
+            1 => {
+                ours.state.counters.push(7);
+                assert_eq!(ours.start(skip), Answer::Refused(6));
+                assert_eq!(ours.state.counters.pop(), Some(7));
+                assert_eq!(ours, old);
+            }
+            _ => {
+                let skip = random.pick(&too_many(shape.digits));
+                assert_eq!(ours.start(skip), Answer::Refused(15));
+                assert_eq!(ours, old);
+            }
         }
     }
 }

@@ -7,7 +7,8 @@ use peer::testing::lists::list;
 use peer::testing::naive::panel::counts;
 use peer::testing::naive::spec::{questions, Spec};
 use peer::testing::settings;
-use peer::testing::shapes::{short_cycle_shape, BLOCK_EDGES};
+use peer::testing::shapes::{short_coarse_shape, BLOCK_EDGES};
+use peer::testing::verdict::{assert_flag, differing};
 use peer::{panel, Answer, Array, Call, Panel, Phase, Shape, State};
 
 #[derive(Clone, Copy, Debug, PartialEq, Eq)]
@@ -24,6 +25,8 @@ struct Log {
     standing: Vec<Vec<u8>>,
     cycle: LoggedCycle,
     count: usize,
+    /// The z of the cycle, 0 where there is none.
+    skip: usize,
     mark: bool,
     /// Whether the last call is a step that ended a cycle.
     just_ended: bool,
@@ -39,6 +42,7 @@ impl Log {
             standing: zeros,
             cycle: LoggedCycle::None,
             count: 0,
+            skip: 0,
             mark: false,
             just_ended: false,
         }
@@ -57,11 +61,7 @@ impl Log {
             Call::Program { row, levels } => self.program(*row, levels),
             Call::Drift { row, column, level } => self.drift(*row, *column, *level),
             Call::Lookup { .. } => {}
-            Call::Start => {
-                self.cycle = LoggedCycle::Open;
-                self.count = 0;
-                self.mark = false;
-            }
+            Call::Start { skip } => self.start(*skip),
             Call::Step { matches } => self.step(matches.len()),
             Call::Run { .. }
             | Call::Panel
@@ -79,6 +79,7 @@ impl Log {
             self.standing[row] = self.written[row].clone();
             self.cycle = LoggedCycle::None;
             self.count = 0;
+            self.skip = 0;
         }
     }
 
@@ -89,36 +90,55 @@ impl Log {
         }
     }
 
+    fn start(&mut self, skip: usize) {
+        if skip < self.spec.shape.digits {
+            self.cycle = LoggedCycle::Open;
+            self.count = 0;
+            self.skip = skip;
+            self.mark = false;
+        }
+    }
+
     fn step(&mut self, match_bytes: usize) {
         if self.cycle == LoggedCycle::Open && match_bytes == self.spec.shape.rows {
             self.count += 1;
-            if self.count == (self.spec.levels - 1) * self.spec.weight() {
+            let levels = self.spec.levels / self.spec.shape.radix.pow(self.skip as u32);
+            if self.count == (levels - 1) * self.spec.weight() {
                 self.cycle = LoggedCycle::Ended;
                 self.just_ended = true;
             }
         }
     }
+}
 
-    /// The cells in which the two forms of a row differ.
-    fn differing(&self, row: usize) -> usize {
-        self.written[row]
-            .iter()
-            .zip(&self.standing[row])
-            .filter(|(written, standing)| written != standing)
-            .count()
-    }
+/// What verdicts said.
+#[derive(Debug, Default)]
+struct Verdicts {
+    /// The cycles that ended with one.
+    cycles: usize,
+    /// Rows whose two forms are equal.
+    clean: usize,
+    /// Rows whose forms differ, but not above the skipped digits.
+    low: usize,
+    /// Rows that differ there in so many cells, at most τ.
+    changed: [usize; 4],
+    /// Those of them that differ in more than τ cells, some of them lower.
+    more_below: usize,
+    /// Rows that differ there in more than τ cells, and those not flagged.
+    beyond: usize,
+    missed: usize,
 }
 
 /// How often each part of the claim was exercised.
 #[derive(Debug, Default)]
 struct Seen {
-    verdicts: usize,
-    clean_rows: usize,
-    changed_rows: [usize; 4],
-    rows_beyond: usize,
-    missed_beyond: usize,
+    /// The verdicts of cycles of all digits, and of coarse ones.
+    fine: Verdicts,
+    coarse: Verdicts,
     ended_with_mark: usize,
     refused: usize,
+    /// Starts that were refused while a cycle was open.
+    refused_starts: usize,
     idle: usize,
     open: usize,
     complete: usize,
@@ -156,6 +176,7 @@ fn check(log: &Log, array: &Array, seen: &mut Seen) {
     };
     assert_eq!(array.cycle.phase, phase);
     assert_eq!(array.cycle.count, log.count);
+    assert_eq!(array.cycle.skip, log.skip);
     check_panel(array, seen);
     match phase {
         Phase::Idle => seen.idle += 1,
@@ -165,26 +186,35 @@ fn check(log: &Log, array: &Array, seen: &mut Seen) {
     if log.just_ended {
         if log.mark {
             seen.ended_with_mark += 1;
+        } else if log.skip == 0 {
+            check_verdict(log, array, &mut seen.fine);
         } else {
-            check_verdict(log, array, seen);
+            check_verdict(log, array, &mut seen.coarse);
         }
     }
 }
 
 /// The flags after a cycle that ended with the mark off.
-fn check_verdict(log: &Log, array: &Array, seen: &mut Seen) {
-    seen.verdicts += 1;
-    for row in 0..log.spec.shape.rows {
-        let differing = log.differing(row);
-        if differing == 0 {
-            assert_eq!(array.state.flags[row], 0);
-            seen.clean_rows += 1;
-        } else if differing <= log.spec.shape.errors {
-            assert_eq!(array.state.flags[row], 1);
-            seen.changed_rows[differing] += 1;
-        } else {
-            seen.rows_beyond += 1;
-            seen.missed_beyond += usize::from(array.state.flags[row] == 0);
+fn check_verdict(log: &Log, array: &Array, seen: &mut Verdicts) {
+    let Log { spec, skip, .. } = log;
+    let errors = spec.shape.errors;
+    seen.cycles += 1;
+    for (row, &flag) in array.state.flags.iter().enumerate() {
+        let (written, standing) = (&log.written[row], &log.standing[row]);
+        assert_flag(spec, written, standing, *skip, flag);
+        let in_all = differing(spec, written, standing, 0);
+        let above = differing(spec, written, standing, *skip);
+        match above {
+            0 if in_all == 0 => seen.clean += 1,
+            0 => seen.low += 1,
+            _ if above > errors => {
+                seen.beyond += 1;
+                seen.missed += usize::from(flag == 0);
+            }
+            _ => {
+                seen.changed[above] += 1;
+                seen.more_below += usize::from(in_all > errors);
+            }
         }
     }
 }
@@ -197,8 +227,10 @@ fn run(shape: Shape, calls: Vec<Call<Vec<u8>>>, seen: &mut Seen) {
     check(&log, &array, seen);
     for mut call in calls {
         log.feed(&call);
+        let was_open = array.cycle.phase == Phase::Open;
         let answer = array.make(&mut call);
         seen.refused += usize::from(answer.number() != 0);
+        seen.refused_starts += usize::from(was_open && answer == Answer::Refused(15));
         check(&log, &array, seen);
     }
 }
@@ -209,19 +241,22 @@ fn demand_3_holds_on_random_lists() {
     let lists = settings::lists(20_000);
     let mut seen = Seen::default();
     for _ in 0..lists {
-        let shape = short_cycle_shape(&mut random, 120);
+        let shape = short_coarse_shape(&mut random, 120);
         let pieces = random.below(14);
         let calls = list(&mut random, shape, pieces);
         run(shape, calls, &mut seen);
     }
     println!("{lists} lists: {seen:?}");
-    assert!(seen.verdicts > 5000);
-    assert!(seen.clean_rows > 5000);
-    assert!(seen.changed_rows[1..].iter().all(|&rows| rows > 100));
-    assert!(seen.rows_beyond > 100);
-    assert!(seen.missed_beyond > 0);
+    for verdicts in [&seen.fine, &seen.coarse] {
+        assert!(verdicts.cycles > 5000);
+        assert!(verdicts.clean > 5000);
+        assert!(verdicts.changed[1..].iter().all(|&rows| rows > 50));
+        assert!(verdicts.beyond > 100);
+        assert!(verdicts.missed > 0);
+    }
+    assert!(seen.coarse.low > 500 && seen.coarse.more_below > 300);
     assert!(seen.ended_with_mark > 100);
-    assert!(seen.refused > 1000);
+    assert!(seen.refused > 1000 && seen.refused_starts > 500);
     assert!(seen.idle > 1000 && seen.open > 1000 && seen.complete > 1000);
     assert!(seen.none_flagged > 1000 && seen.several_flagged > 1000);
 }
@@ -235,55 +270,15 @@ fn demand_3_holds_on_arrays_of_one_block_and_more() {
         for _ in 0..lists {
             let shape = Shape {
                 rows,
-                ..short_cycle_shape(&mut random, 20)
+                ..short_coarse_shape(&mut random, 20)
             };
             let calls = list(&mut random, shape, 10);
             run(shape, calls, &mut seen);
         }
     }
     println!("{lists} lists for each of {BLOCK_EDGES:?} rows: {seen:?}");
-    assert!(seen.verdicts > 100 && seen.refused > 100);
+    assert!(seen.fine.cycles > 100 && seen.coarse.cycles > 50);
+    assert!(seen.refused > 100);
     assert!(seen.none_flagged > 1000 && seen.several_flagged > 100);
     assert!(seen.first_in_block.iter().all(|&told| told > 100));
-}
-
-/// Every change of up to τ cells of a row is caught: all places and levels on
-/// some small shapes.
-#[test]
-fn every_change_of_few_cells_is_flagged() {
-    for (radix, digits, errors, width) in [
-        (2, 2, 1, 3),
-        (3, 1, 1, 2),
-        (4, 1, 2, 1),
-        (3, 1, 2, 2),
-        (2, 1, 3, 4),
-        (3, 1, 3, 1),
-    ] {
-        let shape = Shape::new(radix, digits, errors, width, 1);
-        let spec = questions(shape).unwrap();
-        let levels: Vec<u8> = (0..width).map(|c| (c * 5 % spec.levels) as u8).collect();
-        let written = spec.encoded(&levels);
-        for number in 0..spec.levels.pow(spec.columns() as u32) {
-            let standing: Vec<u8> = (0..spec.columns())
-                .map(|c| (number / spec.levels.pow(c as u32) % spec.levels) as u8)
-                .collect();
-            let pairs = written.iter().zip(&standing);
-            let differing = pairs.filter(|(a, b)| a != b).count();
-            if differing <= errors {
-                let flag = flag_after_cycle(shape, &standing);
-                assert_eq!(flag, u8::from(differing > 0), "{shape:?} {standing:?}");
-            }
-        }
-    }
-}
-
-/// The flag of the only row after one cycle.
-fn flag_after_cycle(shape: Shape, cells: &[u8]) -> u8 {
-    let mut array = Array::fresh(shape).unwrap();
-    array.state.cells.copy_from_slice(cells);
-    assert_eq!(array.start(), Answer::Done);
-    while array.cycle.phase == Phase::Open {
-        assert_eq!(array.step(&mut [0]), Answer::Done);
-    }
-    array.state.flags[0]
 }

@@ -170,11 +170,11 @@ fn large_random_jobs_agree_with_the_definitions() {
             "levels {} columns {} lookups {}\n",
             layout.levels(),
             layout.columns(),
-            layout.lookups()
+            layout.lookups(0)
         );
         assert!(report.starts_with(&first));
         assert_eq!(report.lines().count(), 1 + layout.rows());
-        if layout.lookups() * layout.cells() < 30_000_000 {
+        if layout.lookups(0) * layout.cells() < 30_000_000 {
             assert_eq!(report, plain_job(&bytes));
             compared += 1;
         }

@@ -62,7 +62,16 @@ fn m7_weights_and_lookups_of_fifty_columns() {
     for (errors, weight, lookups) in [(1, 51, 357), (2, 156, 1092), (3, 187, 1309)] {
         let layout = layout(2, 3, errors, 50);
         assert_eq!(layout.weight(), weight);
-        assert_eq!(layout.lookups(), lookups);
+        assert_eq!(layout.lookups(0), lookups);
+    }
+}
+
+/// The shapes of M7 with one and with two digits skipped: q / ρ^z is 4 and 2.
+#[test]
+fn m7_lookups_of_coarse_cycles() {
+    for (errors, of_4, of_2) in [(1, 153, 51), (2, 468, 156), (3, 561, 187)] {
+        let layout = layout(2, 3, errors, 50);
+        assert_eq!([1, 2].map(|skip| layout.lookups(skip)), [of_4, of_2]);
     }
 }
 
@@ -89,7 +98,7 @@ fn table_one_of_the_paper() {
             assert_eq!(layout.checks(), checks);
             assert_eq!(layout.columns(), columns);
             assert_eq!(layout.weight(), weight);
-            assert_eq!(layout.lookups(), lookups);
+            assert_eq!(layout.lookups(0), lookups);
         }
     }
 }

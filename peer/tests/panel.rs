@@ -4,11 +4,11 @@
 use peer::testing::draw::{self, Right};
 use peer::testing::naive::calls::make;
 use peer::testing::naive::panel::counts;
-use peer::testing::naive::spec::{ends_digit, questions};
+use peer::testing::naive::spec::questions;
 use peer::testing::panels::{foreign, wrong_lengths, Cases, EXAMPLE, WITH_TOTALS};
 use peer::testing::random::Random;
 use peer::testing::settings;
-use peer::testing::shapes::{block_shape, short_cycle_shape, BLOCK_EDGES};
+use peer::testing::shapes::{block_shape, short_coarse_shape, BLOCK_EDGES};
 use peer::{panel, Answer, Array, Call, Cycle, Name, Panel, Phase, Shape, State};
 
 /// Two levels, one rule column and one check column.
@@ -33,7 +33,7 @@ fn opened(random: &mut Random, shape: Shape) -> Array {
     Array {
         shape,
         state,
-        cycle: Cycle::open(&layout),
+        cycle: Cycle::open(&layout, 0),
     }
 }
 
@@ -62,7 +62,7 @@ fn totals_where_every_row_is_flagged() {
     for rows in BLOCK_EDGES {
         let mut array = Array::fresh(narrow(rows)).unwrap();
         array.state.cells = [0, 1].repeat(rows);
-        assert_eq!(array.start(), Answer::Done);
+        assert_eq!(array.start(0), Answer::Done);
         while array.cycle.phase == Phase::Open {
             assert_eq!(array.step(&mut vec![0; rows]), Answer::Done);
         }
@@ -109,7 +109,7 @@ fn the_length_of_totals_is_asked_where_they_are_lent() {
 fn clear_and_start_write_zeros_over_any_totals() {
     let mut random = settings::random(23);
     for rows in BLOCK_EDGES {
-        for mut call in [Call::<Vec<u8>>::Clear, Call::Start] {
+        for mut call in [Call::<Vec<u8>>::Clear, Call::Start { skip: 0 }] {
             let mut array = opened(&mut random, narrow(rows));
             array.state.totals.fill(7);
             assert_eq!(array.make(&mut call), Answer::Done);
@@ -128,19 +128,20 @@ fn a_step_counts_at_the_end_of_a_digit_and_nowhere_else() {
     for rows in BLOCK_EDGES.repeat(5) {
         let shape = Shape {
             rows,
-            ..short_cycle_shape(&mut random, 60)
+            ..short_coarse_shape(&mut random, 60)
         };
         let layout = shape.layout().unwrap();
-        let schedule = questions(shape).unwrap().schedule();
+        let skip = random.below(shape.digits);
+        let schedule = questions(shape).unwrap().schedule(skip);
         let mut array = Array::fresh(shape).unwrap();
-        assert_eq!(array.start(), Answer::Done);
-        for count in 0..schedule.len() {
+        assert_eq!(array.start(skip), Answer::Done);
+        for count in 0..schedule.lookups() {
             let (flags, totals) = foreign(&mut random, &layout);
             array.state.flags.clone_from(&flags);
             array.state.totals.clone_from(&totals);
             assert_eq!(array.step(&mut vec![0; rows]), Answer::Done);
             assert_eq!(array.state.flags, flags, "{shape}");
-            if ends_digit(&schedule, count) {
+            if schedule.ends_digit(count) {
                 assert_eq!(array.state.totals, counts(&flags), "{shape}");
                 counted += 1;
             } else {

@@ -83,6 +83,7 @@ linked! {
     fn loops_start(
         array: *const Array,
         record: *mut Words,
+        skip: usize,
         counters: *mut u8,
         flags: *mut u8,
         totals: *mut u8,
@@ -101,12 +102,13 @@ linked! {
     fn loops_encode(array: *const Array, row: *mut u8);
 }
 
-pub fn start(array: &Array, words: &mut Words, state: State<&mut [u8]>) {
-    assert!(array.fits(&state));
+pub fn start(array: &Array, words: &mut Words, skip: usize, state: State<&mut [u8]>) {
+    assert!(array.fits(&state) && skip < array.digits);
     unsafe {
         loops_start(
             array,
             words,
+            skip,
             state.counters.as_mut_ptr(),
             state.flags.as_mut_ptr(),
             state.totals.as_mut_ptr(),

@@ -3,7 +3,7 @@
 //
 // A program in C would work out sizes and columns once, when it sets the array
 // up, and would trust its own buffers. So these leave out:
-// - questions 1 to 6, and question 8 of the encoder;
+// - questions 1 to 6, question 15 of the start, and question 8 of the encoder;
 // - of question 9, whether the count is that of the place; a step asks that the
 //   cycle is open and that check, digit, column and factor are ones of the
 //   schedule;
@@ -26,6 +26,7 @@ struct array {
 
 struct record {
     size_t phase, check, digit, column, factor, count;
+    size_t skip;  // low digits that the cycle skips
 };
 
 struct panel {
@@ -51,14 +52,14 @@ static size_t block_end(size_t rows, size_t start)
     return rows - start < BLOCK ? rows : start + BLOCK;
 }
 
-void loops_start(const struct array *array, struct record *record,
+void loops_start(const struct array *array, struct record *record, size_t skip,
                  uint8_t *counters, uint8_t *flags, uint8_t *totals)
 {
     memset(counters, 0, array->rows);
     memset(flags, 0, array->rows);
     memset(totals, 0, block_count(array->rows));
     *record = (struct record){
-        OPEN, 0, array->digits - 1, next_held(array, 0, 0), 1, 0,
+        OPEN, 0, array->digits - 1, next_held(array, 0, 0), 1, 0, skip,
     };
 }
 
@@ -79,13 +80,15 @@ static void advance(const struct array *array, struct record *record,
         record->column = next_held(array, record->check, record->column + 1);
         return;
     }
-    if (record->digit > 0) {
+    if (record->digit > record->skip) {
         record->digit--;
     } else if (record->check + 1 < array->checks) {
         record->check++;
         record->digit = array->digits - 1;
     } else {
-        *record = (struct record){COMPLETE, 0, 0, 0, 0, record->count};
+        *record = (struct record){
+            COMPLETE, 0, 0, 0, 0, record->count, record->skip,
+        };
         return;
     }
     record->column = next_held(array, record->check, 0);
@@ -111,7 +114,8 @@ uint8_t loops_step(const struct array *array, struct record *record,
 {
     size_t column = record->column;
     if (record->phase != OPEN || record->check >= array->checks ||
-        record->digit >= array->digits || column >= array->columns ||
+        record->digit < record->skip || record->digit >= array->digits ||
+        column >= array->columns ||
         !(array->matrix[column] >> record->check & 1))
         return 9;
     size_t span = array->powers[array->digits - record->digit];
@@ -135,7 +139,7 @@ uint8_t loops_step(const struct array *array, struct record *record,
         for (size_t i = 0; i < rows; i++)
             flags[i] = counters[i] ? 1 : flags[i];
         count_flags(rows, flags, totals);
-        if (record->digit == 0)
+        if (record->digit == record->skip)
             memset(counters, 0, rows);
     }
     advance(array, record, span, ends_digit);

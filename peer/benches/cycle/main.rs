@@ -3,16 +3,20 @@
 //! work in turn on the same buffers, which are set to the same bytes before
 //! each run, and must leave the same bytes. A run is timed in pieces; of each
 //! piece the least time of several runs counts. Words given after `--` choose
-//! the lines whose title has one of them. At the end the panel is timed beside
-//! a full reading of the flags.
+//! the lines whose title has one of them. At the end a coarse cycle is timed
+//! beside the one of all digits, and the panel beside a full reading of the
+//! flags.
 
+mod coarse;
 mod in_c;
 mod panel;
 #[path = "../../tests/proved_calls/mod.rs"]
 mod proved_calls;
+mod small_table;
 
 use std::time::{Duration, Instant};
 
+use peer::testing::naive::spec::questions;
 use peer::testing::random::Random;
 use peer::testing::records::{cycle_of, words_of, Words};
 use peer::{Cycle, Phase, Shape, State};
@@ -64,11 +68,34 @@ impl Bench {
     }
 }
 
+/// A start with z, and so many steps.
+#[derive(Clone, Copy)]
+struct Steps {
+    skip: usize,
+    steps: usize,
+}
+
+impl Steps {
+    /// The first steps of a cycle of all digits.
+    fn first(steps: usize) -> Steps {
+        Steps { skip: 0, steps }
+    }
+
+    /// A whole cycle.
+    fn whole(shape: Shape, skip: usize) -> Steps {
+        let layout = shape.layout().expect("a good shape");
+        Steps {
+            skip,
+            steps: layout.lookups(skip),
+        }
+    }
+}
+
 /// What is timed.
 #[derive(Clone, Copy)]
 enum Work {
-    /// A start and so many steps, one call for each.
-    Steps(usize),
+    /// A start and steps, one call for each.
+    Steps(Steps),
     /// The check cells of all rows, one call for each.
     Encode,
 }
@@ -80,7 +107,7 @@ fn main() {
         line("cycle, Example 1", shape, whole(shape));
     }
     let largest = Shape::new(2, 8, 2, 247, 4096);
-    line("first steps", largest, Work::Steps(2_000));
+    line("first steps", largest, Work::Steps(Steps::first(2_000)));
     line("encoder", largest, Work::Encode);
     for rows in [64, 512, 4096] {
         let shape = Shape::new(2, 3, 2, 50, rows);
@@ -88,16 +115,20 @@ fn main() {
     }
     for width in [50, 120, 247] {
         let shape = Shape::new(2, 3, 2, width, 512);
-        line("1,000 steps, wider", shape, Work::Steps(1_000));
+        let first = Work::Steps(Steps::first(1_000));
+        line("1,000 steps, wider", shape, first);
+    }
+    if chosen(coarse::TITLE) {
+        coarse::table(Shape::new(2, 8, 2, 60, 512), 4);
     }
     if chosen(panel::TITLE) {
         panel::table(largest);
     }
 }
 
-/// A whole cycle.
+/// A whole cycle of all digits.
 fn whole(shape: Shape) -> Work {
-    Work::Steps(shape.layout().expect("a good shape").lookups())
+    Work::Steps(Steps::whole(shape, 0))
 }
 
 fn heading() {
@@ -123,7 +154,7 @@ fn line(title: &str, shape: Shape, work: Work) {
     }
     let [proved, rust, c] = times(shape, work);
     let (calls, row_steps) = match work {
-        Work::Steps(steps) => (steps, steps * shape.rows),
+        Work::Steps(Steps { steps, .. }) => (steps, steps * shape.rows),
         Work::Encode => (shape.rows, shape.rows),
     };
     print!("{title:18} {:5} {:6}", shape.radix, shape.digits);
@@ -211,15 +242,17 @@ fn least(
     (least, end.expect("a run"))
 }
 
-/// All steps were made; a whole cycle flags and counts the rows that drifted.
-fn check_end(begin: &Bench, end: &Bench, steps: usize, shape: Shape) {
+/// All steps were made; a whole cycle flags and counts the rows that drifted in
+/// a digit that it does not skip.
+fn check_end(begin: &Bench, end: &Bench, Steps { skip, steps }: Steps, shape: Shape) {
     let cycle = cycle_of(&end.words);
-    assert_eq!(cycle.count, steps);
-    if steps == shape.layout().expect("a good shape").lookups() {
+    assert_eq!((cycle.count, cycle.skip), (steps, skip));
+    if steps == Steps::whole(shape, skip).steps {
         assert_eq!(cycle.phase, Phase::Complete);
-        let sound = |row| peer::sound(shape, &begin.state.cells, row).expect("a good row");
+        let spec = questions(shape).expect("a good shape");
         for (row, &flag) in end.state.flags.iter().enumerate() {
-            assert_eq!(flag == 0, sound(row));
+            let row = spec.row(&begin.state.cells, row);
+            assert_eq!(flag == 0, spec.sums_hold(row, skip));
         }
         let State { flags, totals, .. } = &end.state;
         let panel = peer::panel(shape, flags, totals).expect("a good array");
@@ -249,7 +282,7 @@ fn timed(all: usize, mut work: impl FnMut(usize)) -> Vec<Duration> {
         .collect()
 }
 
-fn proved_steps(shape: Shape, steps: usize, bench: &mut Bench) -> Vec<Duration> {
+fn proved_steps(shape: Shape, work: Steps, bench: &mut Bench) -> Vec<Duration> {
     let Bench {
         words,
         state,
@@ -257,9 +290,9 @@ fn proved_steps(shape: Shape, steps: usize, bench: &mut Bench) -> Vec<Duration> 
     } = bench;
     let mut number = 0;
     let mut pieces = timed(1, |_| {
-        number |= proved_calls::start(words, shape, state.lend())
+        number |= proved_calls::start(words, shape, work.skip, state.lend())
     });
-    pieces.extend(timed(steps, |steps| {
+    pieces.extend(timed(work.steps, |steps| {
         for _ in 0..steps {
             number |= proved_calls::step(words, shape, state.lend(), matches);
         }
@@ -268,11 +301,13 @@ fn proved_steps(shape: Shape, steps: usize, bench: &mut Bench) -> Vec<Duration> 
     pieces
 }
 
-fn rust_steps(shape: Shape, steps: usize, bench: &mut Bench) -> Vec<Duration> {
+fn rust_steps(shape: Shape, work: Steps, bench: &mut Bench) -> Vec<Duration> {
     let Bench { state, matches, .. } = bench;
     let mut now = (Cycle::IDLE, Ok(()));
-    let mut pieces = timed(1, |_| now = peer::start(shape, state.lend(), now.0));
-    pieces.extend(timed(steps, |steps| {
+    let mut pieces = timed(1, |_| {
+        now = peer::start(shape, work.skip, state.lend(), now.0)
+    });
+    pieces.extend(timed(work.steps, |steps| {
         for _ in 0..steps {
             let next = peer::step(shape, state.lend(), matches, now.0);
             now = (next.0, now.1.and(next.1));
@@ -283,15 +318,15 @@ fn rust_steps(shape: Shape, steps: usize, bench: &mut Bench) -> Vec<Duration> {
     pieces
 }
 
-fn c_steps(shape: Shape, steps: usize, bench: &mut Bench) -> Vec<Duration> {
+fn c_steps(shape: Shape, work: Steps, bench: &mut Bench) -> Vec<Duration> {
     let Bench {
         words,
         state,
         matches,
     } = bench;
     let array = in_c::Array::new(shape);
-    let mut pieces = timed(1, |_| in_c::start(&array, words, state.lend()));
-    pieces.extend(timed(steps, |steps| {
+    let mut pieces = timed(1, |_| in_c::start(&array, words, work.skip, state.lend()));
+    pieces.extend(timed(work.steps, |steps| {
         in_c::steps(&array, words, state.lend(), matches, steps);
     }));
     pieces
@@ -326,7 +361,7 @@ fn unencoded(shape: Shape) -> Bench {
 }
 
 /// Rows of random levels with their check cells; in every 16th one cell has
-/// drifted.
+/// drifted in one binary digit.
 fn drifted(shape: Shape) -> Bench {
     let layout = shape.layout().expect("a good shape");
     let mut bench = unencoded(shape);
@@ -336,7 +371,7 @@ fn drifted(shape: Shape) -> Bench {
         peer::encode(&layout, row);
         if number % 16 == 5 {
             let column = random.below(layout.columns());
-            row[column] ^= 1;
+            row[column] ^= 1 << random.below(shape.digits);
         }
     }
     bench

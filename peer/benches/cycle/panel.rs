@@ -1,7 +1,6 @@
 //! The panel beside a full reading of the flags, in an array with one flagged
 //! row: in turn its first, its middle and its last one.
 
-use std::fmt::Display;
 use std::hint::black_box;
 use std::ops::Range;
 use std::time::{Duration, Instant};
@@ -9,7 +8,8 @@ use std::time::{Duration, Instant};
 use peer::{Panel, Shape, State};
 
 use crate::in_c::{self, Told};
-use crate::{cell, least, proved_calls, Bench, Build};
+use crate::small_table::{heading, line, Numbers};
+use crate::{least, proved_calls, Bench, Build};
 
 /// What the table is called.
 pub const TITLE: &str = "panel and full reading";
@@ -25,16 +25,13 @@ fn flagged_rows(rows: usize) -> [usize; PIECES] {
     [0, rows / 2, rows - 1]
 }
 
-/// A number for each build.
-type Numbers = [Option<f64>; 3];
-
 /// Times both and prints the table: the mean of all pieces, and the last one,
 /// which takes the panel the longest.
 pub fn table(shape: Shape) {
     let begin = Bench::fresh(shape);
     let (least, _) = least(&begin, |build, bench| run(build, shape, bench));
     println!("\n{TITLE}, {} rows, one flagged", shape.rows);
-    print_line("", "flagged row", ["proved", "Rust", "C"]);
+    heading("flagged row");
     for (rows, of) in [("mean of three", mean as fn(&[_]) -> _), ("last", last)] {
         let times = |range: Range<usize>| {
             let pieces = least.each_ref().map(|all| all.get(range.clone()));
@@ -48,15 +45,6 @@ pub fn table(shape: Shape) {
         line("panel / full reading in Rust", rows, 4, ratios(panel, rust));
         line("panel / full reading in C", rows, 4, ratios(panel, c));
     }
-}
-
-fn line(title: &str, rows: &str, places: usize, numbers: Numbers) {
-    let cells = numbers.map(|number| cell(9, places, number));
-    print_line(title, rows, cells);
-}
-
-fn print_line(title: &str, rows: &str, [proved, rust, c]: [impl Display; 3]) {
-    println!("{title:28} {rows:13} | {proved:>9} {rust:>9} {c:>9}");
 }
 
 fn ratios(times: Numbers, other: Option<f64>) -> Numbers {

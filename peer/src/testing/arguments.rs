@@ -30,6 +30,14 @@ impl<B> Call<B> {
         }
     }
 
+    /// The number of low digits that a cycle skips.
+    pub fn skip_mut(&mut self) -> Option<&mut usize> {
+        match self {
+            Call::Start { skip } | Call::Run { skip, .. } => Some(skip),
+            _ => None,
+        }
+    }
+
     /// The levels of a rule, or the inputs of a lookup.
     pub fn levels_mut(&mut self) -> Option<&mut Vec<u8>> {
         match self {

@@ -21,6 +21,8 @@ pub trait Draw {
     fn level(&mut self) -> u8;
     /// Inputs of a lookup.
     fn inputs(&mut self) -> Vec<u8>;
+    /// The number of low digits that a cycle skips.
+    fn skip(&mut self) -> usize;
     /// A buffer of the call's own.
     fn buffer(&mut self, own: Own) -> Self::Buffer;
 }
@@ -42,11 +44,12 @@ pub fn call<D: Draw>(name: Name, draw: &mut D) -> Call<D::Buffer> {
             inputs: draw.inputs(),
             matches: draw.buffer(Own::Matches),
         },
-        Name::Start => Call::Start,
+        Name::Start => Call::Start { skip: draw.skip() },
         Name::Step => Call::Step {
             matches: draw.buffer(Own::Matches),
         },
         Name::Run => Call::Run {
+            skip: draw.skip(),
             matches: draw.buffer(Own::Matches),
         },
         Name::Panel => Call::Panel,
@@ -98,6 +101,10 @@ impl Draw for Right<'_> {
         let levels = self.layout.levels();
         let bound = self.random.pick(&[2, 3, levels]).min(levels);
         self.random.levels(bound, self.layout.width())
+    }
+
+    fn skip(&mut self) -> usize {
+        self.random.below(self.layout.digits())
     }
 
     fn buffer(&mut self, own: Own) -> Own {

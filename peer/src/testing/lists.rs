@@ -6,6 +6,7 @@ use crate::testing::draw::{self, some_bytes, some_length, some_number, Draw};
 use crate::testing::lent::Own;
 use crate::testing::random::Random;
 use crate::testing::shapes::layout;
+use crate::testing::skips::too_many;
 
 /// The calls of a list, each as often as its share.
 const SHARES: [Name; 12] = [
@@ -61,19 +62,31 @@ fn push_changed_row(random: &mut Random, layout: &Layout, calls: &mut Vec<Call<V
     }
 }
 
-/// Starts a cycle and makes all its steps; now and then another call comes in
-/// between, or one step more follows.
+/// Starts a cycle that skips any number of digits, and makes all its steps; now
+/// and then another call comes in between, or one step more follows.
 fn push_cycle(random: &mut Random, layout: &Layout, calls: &mut Vec<Call<Vec<u8>>>) {
-    calls.push(Call::Start);
+    let skip = random.below(layout.digits());
+    calls.push(Call::Start { skip });
     let disturbed = random.one_in(3);
-    let lookups = layout.lookups();
+    let lookups = layout.lookups(skip);
     for _ in 0..lookups + random.below(2) {
         calls.push(Call::Step {
             matches: random.bytes(layout.rows()),
         });
         if disturbed && random.one_in(lookups) {
-            calls.push(some_call(random, layout));
+            calls.push(some_disturbance(random, layout));
         }
+    }
+}
+
+/// A call that comes into a cycle: any, or a start that is refused.
+fn some_disturbance(random: &mut Random, layout: &Layout) -> Call<Vec<u8>> {
+    if random.one_in(4) {
+        Call::Start {
+            skip: random.pick(&too_many(layout.digits())),
+        }
+    } else {
+        some_call(random, layout)
     }
 }
 
@@ -123,6 +136,10 @@ impl Draw for Mostly<'_> {
 
     fn inputs(&mut self) -> Vec<u8> {
         self.levels()
+    }
+
+    fn skip(&mut self) -> usize {
+        some_number(self.random, self.layout.digits())
     }
 
     fn buffer(&mut self, own: Own) -> Vec<u8> {

@@ -19,11 +19,15 @@
 //!   a call, and lists of calls;
 //! - [`lent`], [`guard`]: what is lent to a call, and the bytes around it;
 //! - [`panels`]: an example, flags and totals for the panel, and what it did;
+//! - [`skips`]: an example of coarse cycles, numbers of digits that no start
+//!   takes, and what was seen of skipped digits;
+//! - [`verdict`]: what a flag says after a cycle;
 //! - [`naive`]: the definitions to compare with;
-//! - [`tally`], [`mod@print`], [`program`]: what was seen, how it is printed, and a
-//!   program that is fed.
+//! - [`tally`], [`counts`], [`mod@print`], [`program`]: what was seen, how it is
+//!   printed, and a program that is fed.
 
 pub mod arguments;
+pub mod counts;
 pub mod damage;
 pub mod draw;
 pub mod guard;
@@ -38,4 +42,6 @@ pub mod random;
 pub mod records;
 pub mod settings;
 pub mod shapes;
+pub mod skips;
 pub mod tally;
+pub mod verdict;

@@ -1,11 +1,10 @@
 //! For the panel: an example, flags and totals as no list leaves them, and what
 //! it does with them.
 
-use std::collections::BTreeMap;
-
 use crate::call::{Call, Name};
 use crate::panel::Panel;
 use crate::shape::{Layout, Shape};
+use crate::testing::counts::Counts;
 use crate::testing::lent::Own;
 use crate::testing::random::Random;
 
@@ -37,6 +36,7 @@ pub const EXAMPLE: Example = Example {
             level: 1,
         },
         Call::Run {
+            skip: 0,
             matches: Own::Matches,
         },
     ],
@@ -116,19 +116,19 @@ const CASES: usize = 9;
 
 /// How often the panel was told something in each case.
 #[derive(Debug, Default)]
-pub struct Cases(BTreeMap<Case, usize>);
+pub struct Cases(Counts<Case>);
 
 impl Cases {
     /// Counts what the panel was told of an array of so many rows.
     pub fn add(&mut self, rows: usize, totals: &[u8], panel: Panel) {
         let number = totals.iter().position(|&total| total != 0);
         let case = number.map(|number| (Block::of(rows, number), panel.first.is_some()));
-        *self.0.entry(case).or_default() += 1;
+        self.0.add(case);
     }
 
     /// The number of all answers.
     pub fn answers(&self) -> usize {
-        self.0.values().sum()
+        self.0.all()
     }
 
     /// Each case was seen at least so often.
@@ -137,7 +137,6 @@ impl Cases {
     ///
     /// If that is not so.
     pub fn assert_each(&self, least: usize) {
-        assert_eq!(self.0.len(), CASES, "{self:?}");
-        assert!(self.0.values().all(|&times| times >= least), "{self:?}");
+        self.0.assert_each(CASES, least);
     }
 }

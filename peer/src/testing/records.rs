@@ -4,8 +4,8 @@ use crate::cycle::{Cycle, Phase};
 use crate::testing::random::Random;
 
 /// The record as it crosses to the calls for C: phase (0 idle, 1 open, 2
-/// complete), check, digit, column, factor, count.
-pub type Words = [usize; 6];
+/// complete), check, digit, column, factor, count, skip.
+pub type Words = [usize; 7];
 
 /// The words of a record.
 pub fn words_of(cycle: Cycle) -> Words {
@@ -21,12 +21,13 @@ pub fn words_of(cycle: Cycle) -> Words {
         cycle.column,
         cycle.factor,
         cycle.count,
+        cycle.skip,
     ]
 }
 
 /// The record that the words stand for: any other phase is idle.
 pub fn cycle_of(words: &Words) -> Cycle {
-    let &[phase, check, digit, column, factor, count] = words;
+    let &[phase, check, digit, column, factor, count, skip] = words;
     Cycle {
         phase: match phase {
             1 => Phase::Open,
@@ -38,6 +39,7 @@ pub fn cycle_of(words: &Words) -> Cycle {
         column,
         factor,
         count,
+        skip,
     }
 }
 
@@ -45,13 +47,14 @@ pub fn cycle_of(words: &Words) -> Cycle {
 pub fn forged(random: &mut Random, cycle: Cycle) -> Cycle {
     let mut forged = cycle;
     for _ in 0..random.below(3) {
-        match random.below(6) {
+        match random.below(7) {
             0 => forged.phase = random.pick(&[Phase::Idle, Phase::Open, Phase::Complete]),
             1 => forged.check = beside(random, forged.check),
             2 => forged.digit = beside(random, forged.digit),
             3 => forged.column = beside(random, forged.column),
             4 => forged.factor = beside(random, forged.factor),
-            _ => forged.count = beside(random, forged.count),
+            5 => forged.count = beside(random, forged.count),
+            _ => forged.skip = beside(random, forged.skip),
         }
     }
     forged

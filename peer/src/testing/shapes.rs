@@ -29,11 +29,24 @@ pub fn small_shape(random: &mut Random) -> Shape {
     }
 }
 
-/// A small shape whose cycle has at most so many lookups (three or more).
+/// A small shape whose cycle of all digits has at most so many lookups (three
+/// or more).
 pub fn short_cycle_shape(random: &mut Random, lookups: usize) -> Shape {
     loop {
         let shape = small_shape(random);
-        if layout(shape).lookups() <= lookups {
+        if layout(shape).lookups(0) <= lookups {
+            return shape;
+        }
+    }
+}
+
+/// Such a shape, half the time with two digits or more, so that a cycle can skip
+/// some.
+pub fn short_coarse_shape(random: &mut Random, lookups: usize) -> Shape {
+    let digits = random.between(1, 2);
+    loop {
+        let shape = short_cycle_shape(random, lookups);
+        if shape.digits >= digits {
             return shape;
         }
     }

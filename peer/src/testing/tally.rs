@@ -15,9 +15,10 @@ pub struct Tally(BTreeMap<(Name, u8), usize>);
 /// The questions that a call asks besides 1 to 6.
 fn own_questions(name: Name) -> &'static [u8] {
     match name {
-        Name::Clear | Name::Start | Name::Run | Name::Panel => &[],
+        Name::Clear | Name::Panel => &[],
         Name::Program | Name::Drift => &[7, 8],
         Name::Lookup | Name::FirstMatch | Name::Encode => &[8],
+        Name::Start | Name::Run => &[15],
         Name::Step => &[9],
         Name::Sound | Name::Read => &[7],
     }

@@ -1,6 +1,6 @@
 // The calls by their header: document 01's rows M1 and M2, a drift, the cycle that finds it, what
-// the panel is told, and refusals. The exit status is the number of the first line that is not as
-// it should be, modulo 255 and never 0, or 0.
+// the panel is told, coarse cycles, and refusals. The exit status is the number of the first line
+// that is not as it should be, modulo 255 and never 0, or 0.
 #include "jorivelune.h"
 
 #include <string.h>
@@ -11,7 +11,7 @@
             return __LINE__ % 255 + 1; \
     } while (0)
 
-int main(void)
+static int whole_cycle(void)
 {
     struct jorivelune_shape shape = {2, 3, 1, 3, 2};
     size_t record[JORIVELUNE_WORDS] = {0};
@@ -38,7 +38,7 @@ int main(void)
     // one cell of the second row drifts; (q - 1) x W = 7 x 4 steps find it
     EXPECT(jorivelune_drift(shape, cells, 8, 1, 2, 7) == 0);
     totals[0] = 7;
-    EXPECT(jorivelune_start(record, shape, counters, 2, flags, 2, totals, 1) == 0);
+    EXPECT(jorivelune_start(record, shape, 0, counters, 2, flags, 2, totals, 1) == 0);
     EXPECT(totals[0] == 0);
     while (record[JORIVELUNE_PHASE] == 1) {
         EXPECT(jorivelune_step(record, shape, cells, 8, counters, 2, flags, 2, totals, 1,
@@ -48,9 +48,10 @@ int main(void)
     EXPECT(record[JORIVELUNE_PHASE] == 2 && record[JORIVELUNE_COUNT] == 28 && steps == 28);
     EXPECT(flags[0] == 0 && flags[1] == 1 && totals[0] == 1);
     totals[0] = 7;
-    EXPECT(jorivelune_run(record, shape, cells, 8, counters, 2, flags, 2, totals, 1,
+    EXPECT(jorivelune_run(record, shape, 0, cells, 8, counters, 2, flags, 2, totals, 1,
                           matches, 2) == 0);
     EXPECT(record[JORIVELUNE_COUNT] == 28 && flags[0] == 0 && flags[1] == 1 && totals[0] == 1);
+    EXPECT(record[JORIVELUNE_SKIP] == 0);
 
     // the panel: one flagged row, found by reading both flags; none where the total is 0
     EXPECT(jorivelune_panel(shape, flags, 2, totals, 1, &total, &first, &read) == 0);
@@ -64,12 +65,12 @@ int main(void)
     memcpy(before, record, sizeof record);
     EXPECT(jorivelune_step(record, shape, cells, 8, counters, 2, flags, 2, totals, 1,
                            matches, 2) == 9);
-    EXPECT(jorivelune_start(record, shape, counters, 1, flags, 2, totals, 1) == 6);
+    EXPECT(jorivelune_start(record, shape, 0, counters, 1, flags, 2, totals, 1) == 6);
     EXPECT(jorivelune_clear(record, shape, cells, 8, counters, 2, flags, 2, totals, 0) == 6);
-    EXPECT(jorivelune_start(record, shape, counters, 2, flags, 2, totals, 0) == 6);
+    EXPECT(jorivelune_start(record, shape, 0, counters, 2, flags, 2, totals, 0) == 6);
     EXPECT(jorivelune_step(record, shape, cells, 8, counters, 2, flags, 2, totals, 0,
                            matches, 2) == 6);
-    EXPECT(jorivelune_run(record, shape, cells, 8, counters, 2, flags, 2, totals, 0,
+    EXPECT(jorivelune_run(record, shape, 0, cells, 8, counters, 2, flags, 2, totals, 0,
                           matches, 2) == 6);
     EXPECT(memcmp(before, record, sizeof record) == 0);
     EXPECT(memcmp(cells, m1, 4) == 0 && flags[0] == 0 && flags[1] == 1 && totals[0] == 1);
@@ -83,4 +84,73 @@ int main(void)
     shape.digits = 0;
     EXPECT(jorivelune_encode(shape, row, 4) == 2);
     return 0;
+}
+
+// The lowest digit of a cell in the first row changes and the highest of one in the second. Cycles
+// that skip 0, 1 and 2 digits take (8 / 2^z - 1) x 4 steps; the coarse ones see the second alone.
+static int coarse_cycles(void)
+{
+    const struct jorivelune_shape shape = {2, 3, 1, 3, 2};
+    const uint8_t m1[3] = {5, 2, 1}, flagged[3][2] = {{1, 1}, {0, 1}, {0, 1}};
+    const size_t steps[3] = {28, 12, 4}, idle[JORIVELUNE_WORDS] = {0};
+    size_t record[JORIVELUNE_WORDS] = {0}, before[JORIVELUNE_WORDS];
+    uint8_t cells[8], counters[2], flags[2], totals[1], matches[2];
+
+    EXPECT(jorivelune_clear(record, shape, cells, 8, counters, 2, flags, 2, totals, 1) == 0);
+    EXPECT(jorivelune_program(record, shape, cells, 8, 0, m1, 3) == 0);
+    EXPECT(jorivelune_drift(shape, cells, 8, 0, 2, 0) == 0);
+    EXPECT(jorivelune_drift(shape, cells, 8, 1, 2, 4) == 0);
+    for (size_t skip = 0; skip < 3; skip++) {
+        EXPECT(jorivelune_start(record, shape, skip, counters, 2, flags, 2, totals, 1) == 0);
+        EXPECT(record[JORIVELUNE_DIGIT] == 2 && record[JORIVELUNE_SKIP] == skip);
+        while (record[JORIVELUNE_PHASE] == 1)
+            EXPECT(jorivelune_step(record, shape, cells, 8, counters, 2, flags, 2, totals, 1,
+                                   matches, 2) == 0);
+        EXPECT(record[JORIVELUNE_COUNT] == steps[skip] && record[JORIVELUNE_SKIP] == skip);
+        EXPECT(record[JORIVELUNE_PHASE] == 2 && memcmp(flags, flagged[skip], 2) == 0);
+        memset(flags, 7, 2);
+        EXPECT(jorivelune_run(record, shape, skip, cells, 8, counters, 2, flags, 2, totals, 1,
+                              matches, 2) == 0);
+        EXPECT(record[JORIVELUNE_COUNT] == steps[skip] && record[JORIVELUNE_SKIP] == skip);
+        EXPECT(record[JORIVELUNE_PHASE] == 2 && memcmp(flags, flagged[skip], 2) == 0);
+    }
+
+    // too many digits are refused before a wrong length and after too many rows
+    struct jorivelune_shape tall = shape;
+    tall.rows = 4097;
+    EXPECT(jorivelune_start(record, shape, 1, counters, 2, flags, 2, totals, 1) == 0);
+    memcpy(before, record, sizeof record);
+    EXPECT(jorivelune_start(record, shape, 3, counters, 2, flags, 2, totals, 1) == 15);
+    EXPECT(jorivelune_start(record, shape, SIZE_MAX, counters, 1, flags, 2, totals, 1) == 15);
+    EXPECT(jorivelune_start(record, tall, 3, counters, 2, flags, 2, totals, 1) == 5);
+    EXPECT(jorivelune_run(record, shape, 3, cells, 8, counters, 2, flags, 2, totals, 1,
+                          matches, 1) == 15);
+    EXPECT(memcmp(before, record, sizeof record) == 0);
+
+    // a step refuses a record with 3 digits to skip, and one whose phase has no name
+    record[JORIVELUNE_SKIP] = 3;
+    EXPECT(jorivelune_step(record, shape, cells, 8, counters, 2, flags, 2, totals, 1,
+                           matches, 2) == 9);
+    EXPECT(record[JORIVELUNE_SKIP] == 3);
+    memcpy(record, before, sizeof record);
+    record[JORIVELUNE_PHASE] = 3;
+    EXPECT(jorivelune_step(record, shape, cells, 8, counters, 2, flags, 2, totals, 1,
+                           matches, 2) == 9);
+    EXPECT(record[JORIVELUNE_PHASE] == 3 && record[JORIVELUNE_SKIP] == 1);
+
+    // the cycle goes on all the same; programming makes all words 0
+    memcpy(record, before, sizeof record);
+    while (record[JORIVELUNE_PHASE] == 1)
+        EXPECT(jorivelune_step(record, shape, cells, 8, counters, 2, flags, 2, totals, 1,
+                               matches, 2) == 0);
+    EXPECT(record[JORIVELUNE_COUNT] == 12 && memcmp(flags, flagged[1], 2) == 0);
+    EXPECT(jorivelune_program(record, shape, cells, 8, 0, m1, 3) == 0);
+    EXPECT(memcmp(idle, record, sizeof record) == 0);
+    return 0;
+}
+
+int main(void)
+{
+    int wrong = whole_cycle();
+    return wrong ? wrong : coarse_cycles();
 }

@@ -22,12 +22,13 @@ impl Drawn {
     pub fn spoil(&mut self, random: &mut Random, layout: &Layout, room: Lent<usize>) {
         let mut none = Vec::new();
         for _ in 0..random.below(4) {
-            match random.below(7) {
+            match random.below(8) {
                 0 => spoil(random, &mut self.shape),
                 1 => self.change_levels(random),
                 2 | 3 => self.change_length(random, room),
                 4 => self.move_away(random, layout),
-                5 => {
+                5 => self.change_skip(random, layout),
+                6 => {
                     *self.call.level_mut().unwrap_or(&mut 0) = random.byte();
                     spoil_level(random, self.call.levels_mut().unwrap_or(&mut none));
                 }
@@ -57,6 +58,11 @@ impl Drawn {
     fn move_away(&mut self, random: &mut Random, layout: &Layout) {
         *self.call.row_mut().unwrap_or(&mut 0) = some_number(random, layout.rows());
         *self.call.column_mut().unwrap_or(&mut 0) = some_number(random, layout.columns());
+    }
+
+    /// Another number of digits to skip, one that a start takes or not.
+    fn change_skip(&mut self, random: &mut Random, layout: &Layout) {
+        *self.call.skip_mut().unwrap_or(&mut 0) = some_number(random, layout.digits());
     }
 }
 

@@ -3,10 +3,12 @@
 use peer::testing::draw::{self, Right};
 use peer::testing::guard::Guarded;
 use peer::testing::lent::{Lent, Own};
-use peer::testing::naive::spec::{questions, Vector};
+use peer::testing::naive::schedule::Schedule;
+use peer::testing::naive::spec::questions;
 use peer::testing::panels::Cases;
 use peer::testing::random::Random;
 use peer::testing::records::{cycle_of, forged, words_of, Words};
+use peer::testing::skips::Skips;
 use peer::testing::tally::Tally;
 use peer::{Answer, Call, Cycle, Layout, Name, Phase, Shape};
 
@@ -22,9 +24,14 @@ pub struct Seen {
     pub by_errors: [usize; 4],
     /// Cycles that ended by a step.
     pub ended: usize,
+    /// Those from their start on without a disturbance: of all digits, and coarse
+    /// ones.
+    pub whole: [usize; 2],
     /// Forged records that a step refused, and such with a phase of no name.
     pub forged: usize,
     pub nameless: usize,
+    /// What was done with skipped digits.
+    pub skips: Skips,
     /// What the panel was told.
     pub panels: Cases,
 }
@@ -33,7 +40,8 @@ pub struct List<'a> {
     pub random: Random,
     pub shape: Shape,
     pub layout: Layout,
-    pub schedule: Vec<Vector>,
+    /// The schedules of every z.
+    pub schedules: Vec<Schedule>,
     pub ours: Side,
     pub seen: &'a mut Seen,
     seed: u64,
@@ -56,7 +64,10 @@ impl<'a> List<'a> {
             random,
             shape,
             layout,
-            schedule: questions(shape).expect("a good shape").schedule(),
+            schedules: questions(shape)
+                .expect("a good shape")
+                .schedules()
+                .collect(),
             ours: side.clone(),
             seen,
             seed,
@@ -103,6 +114,7 @@ impl<'a> List<'a> {
     /// Makes a call in both builds and compares.
     pub fn make(&mut self, drawn: Drawn) -> Answer {
         let name = drawn.call.name();
+        let before = self.record();
         let (proved, arguments) = self.proved.proved(&drawn);
         let ours = self.ours.ours(&drawn);
         let unwritten = arguments == drawn.call.clone().map(|_| ());
@@ -114,9 +126,11 @@ impl<'a> List<'a> {
             self.fail("the arguments");
         }
         self.compare();
+        let after = self.record();
         self.seen.tally.add(name, ours);
+        self.seen.skips.add(name, ours, before, after);
         self.seen.by_errors[self.shape.errors] += 1;
-        if name == Name::Step && ours == Answer::Done && self.phase() == Phase::Complete {
+        if name == Name::Step && ours == Answer::Done && after.phase == Phase::Complete {
             self.seen.ended += 1;
         }
         if let Answer::Panel(panel) = ours {
@@ -152,8 +166,8 @@ impl<'a> List<'a> {
         );
     }
 
-    pub fn phase(&self) -> Phase {
-        cycle_of(&self.ours.words).phase
+    pub fn record(&self) -> Cycle {
+        cycle_of(&self.ours.words)
     }
 
     /// Somebody else writes bytes into a buffer.

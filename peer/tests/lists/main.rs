@@ -4,6 +4,7 @@
 //!
 //! The library is ../target/staticlib/libffi.a, made by rt staticlib ffi.
 
+mod coarse;
 mod drawn;
 mod event;
 mod list;
@@ -15,10 +16,9 @@ mod side;
 use list::{List, Seen};
 use peer::testing::panels::EXAMPLE;
 use peer::testing::random::Random;
-use peer::testing::records::words_of;
 use peer::testing::settings;
 use peer::testing::shapes::{block_shape, limit_shape, small_shape, BLOCK_EDGES};
-use peer::{Answer, Cycle, Name, Phase, Shape};
+use peer::{Answer, Shape};
 
 const SEED: u64 = 20_261_116;
 
@@ -52,8 +52,10 @@ fn random_lists_leave_the_same() {
     assert!(seen.tally.calls() >= 100_000);
     assert!(seen.by_errors[1..].iter().all(|&calls| calls >= 10_000));
     assert!(seen.ended >= 1_000);
+    assert!(seen.whole.iter().all(|&cycles| cycles >= 200));
     assert!(seen.forged >= 1_000 && seen.nameless >= 100);
     seen.tally.assert_complete();
+    seen.skips.assert_each(80);
     seen.panels.assert_each(1);
 }
 
@@ -63,22 +65,20 @@ fn random_lists_leave_the_same() {
 fn whole_cycles_at_the_limits_leave_the_same() {
     let mut seed = settings::seed(SEED);
     let mut seen = Seen::default();
-    for (radix, digits, errors, width) in [(255, 1, 1, 254), (2, 8, 2, 247), (16, 2, 3, 120)] {
+    for (radix, digits, errors, width, skips) in [
+        (255, 1, 1, 254, &[0][..]),
+        (2, 8, 2, 247, &[0, 4, 7]),
+        (16, 2, 3, 120, &[0, 1]),
+    ] {
         seed = seed.wrapping_sub(1);
         let shape = Shape::new(radix, digits, errors, width, 2);
         let mut list = List::new(seed, |_| shape, &mut seen);
-        list.cycle(usize::MAX, false);
-        let run = list.right(Name::Run);
-        list.make(run);
-        let complete = Cycle {
-            phase: Phase::Complete,
-            count: list.layout.lookups(),
-            ..Cycle::IDLE
-        };
-        assert_eq!(list.ours.words, words_of(complete));
+        for &skip in skips {
+            list.whole_cycles(skip);
+        }
     }
     println!("{} calls", seen.tally.calls());
-    assert_eq!(seen.ended, 3);
+    assert_eq!(seen.ended, 6);
 }
 
 #[test]

@@ -1,10 +1,11 @@
 //! The pieces of which a list is made.
 
+use peer::testing::draw::some_number;
 use peer::testing::lent::Lent;
-use peer::testing::naive::spec::record;
 use peer::testing::panels::{foreign, wrong_lengths, WITH_TOTALS};
-use peer::testing::records::{cycle_of, forged, words_of};
-use peer::{Answer, Call, Name, Phase, Shape};
+use peer::testing::records::{forged, words_of};
+use peer::testing::skips::too_many;
+use peer::{Answer, Call, Cycle, Name, Phase, Shape};
 
 use crate::drawn::Drawn;
 use crate::list::List;
@@ -19,10 +20,10 @@ const TOTALS: usize = 3;
 const NAMELESS: [usize; 9] = [3, 4, 255, 256, 257, 258, 1 << 32, (1 << 32) + 1, usize::MAX];
 
 /// Whether a cycle on the shape looks at too many rows to be run often.
-fn is_long(shape: Shape) -> bool {
-    shape
-        .layout()
-        .is_ok_and(|layout| layout.lookups() * layout.rows() > 100_000)
+fn is_long(shape: Shape, skip: usize) -> bool {
+    shape.layout().is_ok_and(|layout| {
+        skip < layout.digits() && layout.lookups(skip) * layout.rows() > 100_000
+    })
 }
 
 impl List<'_> {
@@ -31,8 +32,10 @@ impl List<'_> {
         let mut drawn = self.right(name);
         let room = self.ours.lent.each().map(|buffer| buffer.room());
         drawn.spoil(&mut self.random, &self.layout, room);
-        if name == Name::Run && is_long(drawn.shape) {
-            drawn.call = Call::Start;
+        if let Call::Run { skip, .. } = drawn.call {
+            if is_long(drawn.shape, skip) {
+                drawn.call = Call::Start { skip };
+            }
         }
         drawn
     }
@@ -49,7 +52,7 @@ impl List<'_> {
     }
 
     /// A row is programmed, a few of its cells drift, and it is looked at.
-    fn changed_row(&mut self) {
+    pub fn changed_row(&mut self) {
         let row = self.random.below(self.shape.rows);
         let mut names = vec![Name::Program, Name::Sound, Name::Read];
         for _ in 0..self.random.below(4) {
@@ -64,8 +67,8 @@ impl List<'_> {
 
     /// A step with a forged record; the true one is put back after a refusal.
     fn forged_step(&mut self) {
-        let words = self.ours.words;
-        let mut changed = words_of(forged(&mut self.random, cycle_of(&words)));
+        let (words, before) = (self.ours.words, self.record());
+        let mut changed = words_of(forged(&mut self.random, before));
         if self.random.one_in(4) {
             changed[0] = self.random.pick(&NAMELESS);
         }
@@ -79,6 +82,27 @@ impl List<'_> {
             self.seen.nameless += usize::from(self.ours.words[0] > 2);
             self.put(words);
         }
+    }
+
+    /// A step with another z in the record. Where it is taken, the cycle goes on
+    /// with that z; else the true record is put back.
+    pub fn step_with_skip(&mut self, skip: usize) -> Answer {
+        let (words, before) = (self.ours.words, self.record());
+        let changed = Cycle { skip, ..before };
+        self.put(words_of(changed));
+        let step = self.right(Name::Step);
+        let answer = self.make(step);
+        self.seen.skips.add_forged(answer, before, changed);
+        if answer != Answer::Done {
+            self.put(words);
+        }
+        answer
+    }
+
+    /// A step with any z in the record.
+    fn step_with_other_skip(&mut self) {
+        let skip = some_number(&mut self.random, self.shape.digits);
+        self.step_with_skip(skip);
     }
 
     /// Any bytes come into a buffer that a step uses: into a row of the cells,
@@ -125,23 +149,58 @@ impl List<'_> {
         }
     }
 
-    /// The record of any place of the schedule, its end most often.
+    /// A start or a whole cycle with so many digits to skip.
+    fn skipping(&mut self, name: Name, skip: usize) -> Drawn {
+        let mut drawn = self.right(name);
+        *drawn.call.skip_mut().expect("a call that skips") = skip;
+        drawn
+    }
+
+    /// A start or a whole cycle that is refused.
+    fn refused_start(&mut self) {
+        let name = self.random.pick(&[Name::Start, Name::Run]);
+        let skip = self.random.pick(&too_many(self.shape.digits));
+        let drawn = self.skipping(name, skip);
+        self.make(drawn);
+    }
+
+    /// A start and a whole cycle with so many digits to skip, which are too many:
+    /// with all else right, with a buffer of a wrong length, and with too many
+    /// rows.
+    pub fn too_many_skipped(&mut self, skip: usize) {
+        for name in [Name::Start, Name::Run] {
+            let mut drawn = self.skipping(name, skip);
+            assert_eq!(self.make(drawn.clone()), Answer::Refused(15));
+            for buffer in 0..=Lent::MATCHES {
+                let mut longer = drawn.clone();
+                *longer.lengths.at(buffer) += 1;
+                assert_eq!(self.make(longer), Answer::Refused(15));
+            }
+            drawn.shape.rows = Shape::MAX_ROWS + 1;
+            assert_eq!(self.make(drawn), Answer::Refused(5));
+        }
+    }
+
+    /// The record of any place of the schedule of any z, its end most often.
     fn jump(&mut self) {
-        let lookups = self.schedule.len();
+        let schedule = &self.schedules[self.random.below(self.shape.digits)];
+        let lookups = schedule.lookups();
         let count = match self.random.below(3) {
             0 => self.random.below(lookups),
             _ => lookups - 1 - self.random.below(lookups.min(5)),
         };
-        self.put(words_of(record(&self.schedule, count)));
+        self.put(words_of(schedule.record(count)));
     }
 
     /// Something else than the next step.
     fn disturb(&mut self) {
-        match self.random.below(6) {
+        match self.random.below(8) {
             0 => self.forged_step(),
             1 | 2 => self.foreign_bytes(),
             3 => self.one_call(),
             4 => self.jump(),
+            5 => self.step_with_other_skip(),
+            6 => self.refused_start(),
             _ => {
                 let call = self.any(Name::Step);
                 self.make(call);
@@ -151,9 +210,9 @@ impl List<'_> {
 
     /// So many steps or to the end of the cycle, with other things between now
     /// and then, and one step more.
-    fn steps(&mut self, steps: usize, disturbed: bool) {
+    pub fn steps(&mut self, steps: usize, disturbed: bool) {
         for _ in 0..steps {
-            if self.phase() != Phase::Open {
+            if self.record().phase != Phase::Open {
                 break;
             }
             if disturbed && self.random.one_in(10) {
@@ -167,17 +226,46 @@ impl List<'_> {
     }
 
     /// A start and so many steps at most, and what the panel is told then.
-    pub fn cycle(&mut self, steps: usize, disturbed: bool) {
-        let start = self.right(Name::Start);
+    pub fn cycle(&mut self, skip: usize, steps: usize, disturbed: bool) {
+        let start = self.skipping(Name::Start, skip);
         self.make(start);
         self.steps(steps, disturbed);
+        if !disturbed && self.record() == self.complete(skip) {
+            self.seen.whole[usize::from(skip > 0)] += 1;
+        }
         self.panel();
+    }
+
+    /// The record after a cycle.
+    pub fn complete(&self, skip: usize) -> Cycle {
+        Cycle {
+            phase: Phase::Complete,
+            count: self.layout.lookups(skip),
+            skip,
+            ..Cycle::IDLE
+        }
+    }
+
+    /// A whole cycle by steps and one by a single call.
+    pub fn whole_cycles(&mut self, skip: usize) {
+        let complete = words_of(self.complete(skip));
+        self.cycle(skip, usize::MAX, false);
+        assert_eq!(self.ours.words, complete);
+        let run = self.skipping(Name::Run, skip);
+        assert_eq!(self.make(run), Answer::Done);
+        assert_eq!(self.ours.words, complete);
+    }
+
+    /// A cycle of any z.
+    fn any_cycle(&mut self, steps: usize, disturbed: bool) {
+        let skip = self.random.below(self.shape.digits);
+        self.cycle(skip, steps, disturbed);
     }
 
     /// So many pieces, with cycles of so many steps at most.
     pub fn pieces(&mut self, pieces: usize, steps: usize) {
         for _ in 0..pieces {
-            match self.random.below(13) {
+            match self.random.below(14) {
                 0..=4 => (0..9).for_each(|_| self.one_call()),
                 5 | 6 => self.changed_row(),
                 7 => self.forged_step(),
@@ -186,9 +274,14 @@ impl List<'_> {
                     self.jump();
                     self.steps(10, false);
                 }
-                10 => self.foreign_panel(),
-                11 => self.cycle(steps, true),
-                _ => self.cycle(steps, false),
+                10 => {
+                    self.jump();
+                    self.step_with_other_skip();
+                    self.steps(10, false);
+                }
+                11 => self.foreign_panel(),
+                12 => self.any_cycle(steps, true),
+                _ => self.any_cycle(steps, false),
             }
         }
     }

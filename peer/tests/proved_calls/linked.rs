@@ -72,6 +72,7 @@ linked! {
     fn jorivelune_start(
         words: *mut Words,
         shape: Numbers,
+        skip: usize,
         counters: *mut u8,
         counters_length: usize,
         flags: *mut u8,
@@ -96,6 +97,7 @@ linked! {
     fn jorivelune_run(
         words: *mut Words,
         shape: Numbers,
+        skip: usize,
         cells: *const u8,
         cells_length: usize,
         counters: *mut u8,

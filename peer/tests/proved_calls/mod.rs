@@ -25,9 +25,9 @@ pub fn make<S: Bytes, B: Bytes>(
     let number = match call {
         Call::Clear => clear(words, shape, state.lend()),
         Call::Program { row, levels } => program(words, shape, cells, *row, levels),
-        Call::Start => start(words, shape, state.lend()),
+        Call::Start { skip } => start(words, shape, *skip, state.lend()),
         Call::Step { matches } => step(words, shape, state.lend(), matches),
-        Call::Run { matches } => run(words, shape, state.lend(), matches),
+        Call::Run { skip, matches } => run(words, shape, *skip, state.lend(), matches),
         Call::Drift { row, column, level } => drift(shape, cells, *row, *column, *level),
         Call::Read { row, out } => read(shape, cells, *row, out),
         Call::Encode { codeword } => encode(shape, codeword),
@@ -125,11 +125,12 @@ pub fn program(words: &mut Words, shape: Shape, cells: &mut [u8], row: usize, le
     }
 }
 
-pub fn start(words: &mut Words, shape: Shape, state: State<&mut [u8]>) -> u8 {
+pub fn start(words: &mut Words, shape: Shape, skip: usize, state: State<&mut [u8]>) -> u8 {
     unsafe {
         jorivelune_start(
             words,
             shape.into(),
+            skip,
             state.counters.as_mut_ptr(),
             state.counters.len(),
             state.flags.as_mut_ptr(),
@@ -140,12 +141,13 @@ pub fn start(words: &mut Words, shape: Shape, state: State<&mut [u8]>) -> u8 {
     }
 }
 
-/// Step and run are given the same.
+/// Step and run are given the same, but for what a run skips.
 macro_rules! stepping {
-    ($name:ident, $linked:ident) => {
+    ($name:ident, $linked:ident $(, $skip:ident)?) => {
         pub fn $name(
             words: &mut Words,
             shape: Shape,
+            $($skip: usize,)?
             state: State<&mut [u8]>,
             matches: &mut [u8],
         ) -> u8 {
@@ -153,6 +155,7 @@ macro_rules! stepping {
                 $linked(
                     words,
                     shape.into(),
+                    $($skip,)?
                     state.cells.as_ptr(),
                     state.cells.len(),
                     state.counters.as_mut_ptr(),
@@ -170,7 +173,7 @@ macro_rules! stepping {
 }
 
 stepping!(step, jorivelune_step);
-stepping!(run, jorivelune_run);
+stepping!(run, jorivelune_run, skip);
 
 pub fn drift(shape: Shape, cells: &mut [u8], row: usize, column: usize, level: u8) -> u8 {
     let (address, length) = (cells.as_mut_ptr(), cells.len());

@@ -1,7 +1,8 @@
 //! The calls. A refused one leaves all that is lent as it was.
 
 use super::panel::{blocks, counts, panel};
-use super::spec::{ends_digit, questions, record, Spec, Vector};
+use super::schedule::Schedule;
+use super::spec::{questions, Spec};
 use super::{all_below, ask};
 use crate::call::{Answer, Call};
 use crate::cycle::{Cycle, Phase};
@@ -16,6 +17,7 @@ const IDLE: Cycle = Cycle {
     column: 0,
     factor: 0,
     count: 0,
+    skip: 0,
 };
 
 /// Makes a call by the definitions.
@@ -27,9 +29,9 @@ pub fn make(array: &mut Array, call: &mut Call<Vec<u8>>) -> Answer {
         Call::Lookup { inputs, matches } => {
             Answer::of(lookup(array, inputs, matches), Answer::Count)
         }
-        Call::Start => Answer::done(start(array)),
+        Call::Start { skip } => Answer::done(start(array, *skip)),
         Call::Step { matches } => Answer::done(step(array, matches)),
-        Call::Run { matches } => Answer::done(run(array, matches)),
+        Call::Run { skip, matches } => Answer::done(run(array, *skip, matches)),
         Call::Panel => Answer::of(panel(array), Answer::Panel),
         Call::FirstMatch { inputs } => Answer::of(first_match(array, inputs), Answer::Row),
         Call::Sound { row } => Answer::of(sound(array, *row), Answer::Sound),
@@ -97,37 +99,54 @@ fn lookup(array: &Array, inputs: &[u8], matches: &mut Vec<u8>) -> Result<usize, 
     Ok(matches.iter().filter(|&&line| line == 1).count())
 }
 
-fn start(array: &mut Array) -> Result<(), u8> {
+fn start(array: &mut Array, skip: usize) -> Result<(), u8> {
     let spec = questions(array.shape)?;
+    ask(skip < array.shape.digits, 15)?;
     ask_rows(array)?;
     clear_rows(array);
-    array.cycle = record(&spec.schedule(), 0);
+    array.cycle = spec.schedule(skip).record(0);
     Ok(())
 }
 
+/// Question 9 asks for a z whose start and accepted steps leave the record.
 fn step(array: &mut Array, matches: &mut Vec<u8>) -> Result<(), u8> {
     let spec = questions(array.shape)?;
-    step_with(&spec, &spec.schedule(), array, matches)
+    ask_lent(&spec, array, matches)?;
+    let schedule = spec
+        .schedules()
+        .find(|schedule| schedule.awaits(&array.cycle));
+    take_step(&spec, &schedule.ok_or(9)?, array, matches);
+    Ok(())
 }
 
-/// A step with the schedule of the shape at hand.
+/// A step with a schedule of the shape at hand.
 pub fn step_with(
     spec: &Spec,
-    schedule: &[Vector],
+    schedule: &Schedule,
     array: &mut Array,
     matches: &mut Vec<u8>,
 ) -> Result<(), u8> {
+    ask_lent(spec, array, matches)?;
+    ask(schedule.awaits(&array.cycle), 9)?;
+    take_step(spec, schedule, array, matches);
+    Ok(())
+}
+
+/// Question 6 for all buffers of a step.
+fn ask_lent(spec: &Spec, array: &Array, matches: &[u8]) -> Result<(), u8> {
     ask(array.state.cells.len() == spec.cells(), 6)?;
     ask_rows(array)?;
-    ask(matches.len() == spec.shape.rows, 6)?;
+    ask(matches.len() == spec.shape.rows, 6)
+}
+
+/// What an accepted step does.
+fn take_step(spec: &Spec, schedule: &Schedule, array: &mut Array, matches: &mut Vec<u8>) {
     let count = array.cycle.count;
-    ask(count < schedule.len(), 9)?;
-    ask(array.cycle == record(schedule, count), 9)?;
-    *matches = spec.match_bytes(&array.state.cells, &spec.inputs(schedule[count]));
+    let inputs = spec.inputs(schedule.vectors[count]);
+    *matches = spec.match_bytes(&array.state.cells, &inputs);
     count_matches(spec, array, matches);
     close(schedule, count, array);
-    array.cycle = record(schedule, count + 1);
-    Ok(())
+    array.cycle = schedule.record(count + 1);
 }
 
 /// Each match byte is added to its row's counter mod ρ.
@@ -140,11 +159,9 @@ fn count_matches(spec: &Spec, array: &mut Array, matches: &[u8]) {
 }
 
 /// What the end of a digit and the end of a check bring.
-fn close(schedule: &[Vector], count: usize, array: &mut Array) {
-    let now = schedule[count];
-    let next = schedule.get(count + 1);
+fn close(schedule: &Schedule, count: usize, array: &mut Array) {
     let rows = array.shape.rows;
-    if ends_digit(schedule, count) {
+    if schedule.ends_digit(count) {
         for row in 0..rows {
             if array.state.counters[row] != 0 {
                 array.state.flags[row] = 1;
@@ -152,19 +169,20 @@ fn close(schedule: &[Vector], count: usize, array: &mut Array) {
         }
         array.state.totals = counts(&array.state.flags);
     }
-    if next.is_none_or(|next| next.check != now.check) {
+    if schedule.ends_check(count) {
         array.state.counters = vec![0; rows];
     }
 }
 
 /// A start and as many steps as the schedule has vectors.
-fn run(array: &mut Array, matches: &mut Vec<u8>) -> Result<(), u8> {
-    let spec = ask_cells(array)?;
-    ask(matches.len() == array.shape.rows, 6)?;
-    start(array)?;
-    let schedule = spec.schedule();
-    for _ in &schedule {
-        step_with(&spec, &schedule, array, matches)?;
+fn run(array: &mut Array, skip: usize, matches: &mut Vec<u8>) -> Result<(), u8> {
+    let spec = questions(array.shape)?;
+    ask(skip < array.shape.digits, 15)?;
+    ask_lent(&spec, array, matches)?;
+    start(array, skip)?;
+    let schedule = spec.schedule(skip);
+    for _ in &schedule.vectors {
+        take_step(&spec, &schedule, array, matches);
     }
     Ok(())
 }

@@ -2,7 +2,7 @@
 
 use super::calls::step_with;
 use super::panel::blocks;
-use super::spec::{questions, record, Spec};
+use super::spec::{questions, Spec};
 use super::{all_below, ask};
 use crate::cycle::Phase;
 use crate::list::Array;
@@ -27,7 +27,7 @@ fn report(input: &[u8]) -> Result<String, u8> {
         "levels {} columns {} lookups {}\n",
         spec.levels,
         spec.columns(),
-        spec.lookups()
+        spec.lookups(0)
     );
     for (row, flag) in cycle_flags(&spec, cells).iter().enumerate() {
         let verdict = if *flag == 0 { "ok" } else { "flagged" };
@@ -69,7 +69,7 @@ fn apply(spec: &Spec, drifts: &[u8], cells: &mut [u8]) -> Result<(), u8> {
 /// The flags that a whole cycle leaves, by full lookups through the nested
 /// loops of the schedule.
 fn cycle_flags(spec: &Spec, cells: Vec<u8>) -> Vec<u8> {
-    let schedule = spec.schedule();
+    let schedule = spec.schedule(0);
     let mut matches = vec![0; spec.shape.rows];
     let mut array = Array {
         shape: spec.shape,
@@ -79,7 +79,7 @@ fn cycle_flags(spec: &Spec, cells: Vec<u8>) -> Vec<u8> {
             flags: vec![0; spec.shape.rows],
             totals: vec![0; blocks(spec.shape.rows)],
         },
-        cycle: record(&schedule, 0),
+        cycle: schedule.record(0),
     };
     while array.cycle.phase == Phase::Open {
         step_with(spec, &schedule, &mut array, &mut matches).expect("a step of an open cycle");

@@ -5,6 +5,7 @@
 pub mod calls;
 pub mod job;
 pub mod panel;
+pub mod schedule;
 pub mod spec;
 
 /// Yes goes on, no gives the number.

@@ -1,6 +1,6 @@
-//! Shapes, the parity-check matrix, codewords, match lines and the schedule.
+//! Shapes, the parity-check matrix, codewords and match lines.
 
-use crate::cycle::{Cycle, Phase};
+use super::schedule::Vector;
 use crate::shape::Shape;
 
 /// A shape that passed questions 1 to 5, with what follows from it.
@@ -14,19 +14,6 @@ pub struct Spec {
     pub checks: usize,
     /// The columns of the parity-check matrix.
     pub matrix: Vec<usize>,
-}
-
-/// One test vector of the schedule.
-#[derive(Clone, Copy, Debug, PartialEq, Eq)]
-pub struct Vector {
-    /// ℓ.
-    pub check: usize,
-    /// s.
-    pub digit: usize,
-    /// j.
-    pub column: usize,
-    /// a.
-    pub factor: usize,
 }
 
 /// Questions 1 to 5.
@@ -112,25 +99,31 @@ impl Spec {
             .sum()
     }
 
-    /// The number of vectors of the schedule.
-    pub fn lookups(&self) -> usize {
-        (self.levels - 1) * self.weight()
+    /// The number of vectors of a cycle that skips so many low digits.
+    pub fn lookups(&self, skip: usize) -> usize {
+        (self.levels / self.shape.radix.pow(skip as u32) - 1) * self.weight()
     }
 
     /// Whether a row is sound, by the definition.
     pub fn is_sound(&self, row: &[u8]) -> bool {
+        row.iter().all(|&cell| usize::from(cell) < self.levels) && self.sums_hold(row, 0)
+    }
+
+    /// Whether for each ℓ and each s from the given one on the digits s of the
+    /// cells in J(ℓ) sum to 0 mod ρ.
+    pub fn sums_hold(&self, row: &[u8], from: usize) -> bool {
         assert_eq!(row.len(), self.columns());
-        row.iter().all(|&cell| usize::from(cell) < self.levels)
-            && (0..self.checks).all(|check| {
-                (0..self.shape.digits).all(|place| {
-                    let sum: usize = self
-                        .support(check)
-                        .iter()
-                        .map(|&column| digit(row[column].into(), self.shape.radix, place))
-                        .sum();
-                    sum.is_multiple_of(self.shape.radix)
-                })
+        let radix = self.shape.radix;
+        (0..self.checks).all(|check| {
+            let support = self.support(check);
+            (from..self.shape.digits).all(|place| {
+                let sum: usize = support
+                    .iter()
+                    .map(|&column| digit(row[column].into(), radix, place))
+                    .sum();
+                sum.is_multiple_of(radix)
             })
+        })
     }
 
     /// The levels and then the check cells that make them sound.
@@ -155,29 +148,6 @@ impl Spec {
             cell += wanted.expect("a digit") * radix.pow(place as u32);
         }
         u8::try_from(cell).expect("a level")
-    }
-
-    /// The schedule as nested loops.
-    pub fn schedule(&self) -> Vec<Vector> {
-        let radix = self.shape.radix;
-        let mut vectors = Vec::new();
-        for check in 0..self.checks {
-            for digit in (0..self.shape.digits).rev() {
-                for column in self.support(check) {
-                    for factor in 1..self.levels / radix.pow(digit as u32) {
-                        if factor % radix != 0 {
-                            vectors.push(Vector {
-                                check,
-                                digit,
-                                column,
-                                factor,
-                            });
-                        }
-                    }
-                }
-            }
-        }
-        vectors
     }
 
     /// The full vector of n inputs.
@@ -213,34 +183,4 @@ fn match_line(row: &[u8], inputs: &[u8]) -> u8 {
     assert_eq!(row.len(), inputs.len());
     let no = row.iter().zip(inputs).any(|(cell, input)| input > cell);
     u8::from(!no)
-}
-
-/// Whether the vector with the given number in the schedule is the last one of
-/// its check and digit, so that its step looks for rows to flag.
-pub fn ends_digit(schedule: &[Vector], count: usize) -> bool {
-    let now = schedule[count];
-    let next = schedule.get(count + 1);
-    next.is_none_or(|next| (next.check, next.digit) != (now.check, now.digit))
-}
-
-/// The record before the vector with the given number in the schedule.
-pub fn record(schedule: &[Vector], count: usize) -> Cycle {
-    match schedule.get(count) {
-        Some(vector) => Cycle {
-            phase: Phase::Open,
-            check: vector.check,
-            digit: vector.digit,
-            column: vector.column,
-            factor: vector.factor,
-            count,
-        },
-        None => Cycle {
-            phase: Phase::Complete,
-            check: 0,
-            digit: 0,
-            column: 0,
-            factor: 0,
-            count,
-        },
-    }
 }
