@@ -1,5 +1,6 @@
-// The questions on the lent memory. Each function is given the answer to what was asked of the shape, asks further where
-// that gave the sizes, and gives the sizes, or the number of the first no.
+// The questions on the lent memory, and before them the one on the digits that a cycle skips. Those on the memory are given
+// the answer to what was asked before, and ask further where that has the sizes. Each function gives the shape's sizes, or
+// the number of the first no.
 use super::blocks::block_count;
 use parity::Shape;
 use shape::sizes::Checked;
