@@ -23,8 +23,8 @@ use Rattle.detection.specs.Examples.{ExamplesClaim, examples, CoarseExam
 pub examplesClaim : ExamplesClaim
 unfolding
     examples run log blank calling zeroRows cleared fresh programCall driftCall lookupCall startCall stepCall started stepped steppedMemory drifted programmed
-    taskMatches taskCount countedRows flaggedRows totalledBlocks resetRows stepMatches entryAt nextAt isPlaceOf cycleAt isNext cellCount blocksOf blockAt countFlagged
-    blockTotals rowAt withRow rowMatch matchBytes counted flagged reset factors ofDigit ofCheck schedule unitVector testVector matchByte taskVector
+    taskMatches taskCount countedRows flaggedRows totalledBlocks resetRows stepMatches entryAt nextAt isPlaceOf cycleAt isNext cellCount blocksOf blockAt
+    countFlagged blockTotals rowAt withRow rowMatch matchBytes counted flagged reset factors ofDigit ofCheck schedule unitVector testVector matchByte taskVector
     number checkDigit checkCell encode weight ofWeight columnOrder eligible ruleColumns checkColumns matrix support matrixOnes lookups
     digit levels largest limit redundancy checks columns
 examplesClaim = refl

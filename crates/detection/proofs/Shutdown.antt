@@ -1,5 +1,5 @@
--- December's shutdown: after a cycle without drift that skips no digit, programming every flagged row again from what was last written restores every row within τ
--- cells of it, and a whole cycle more flags no row. Assumes nothing.
+-- December's shutdown: after a cycle without drift that skips no digit, programming every flagged row again from what was last written restores
+-- every row within τ cells of it, and a whole cycle more flags no row. Assumes nothing.
 use mathlib.Core.Path.{_≡_, refl, sym, ap, _∙_}
 use mathlib.Core.Logic.{⊎-elim}
 use mathlib.Core.Bool.{Bool, true, false, cond}

@@ -1,5 +1,5 @@
--- Document 01's log of a list of calls, with the digits that a cycle skips (document 02, Card 2). It is fed the shape and the calls alone: of the library it names the shape's sizes, the questions on
--- arguments, the encoded row and the length of a cycle.
+-- Document 01's log of a list of calls, with the digits that a cycle skips (document 02, Card 2). It is fed the shape and the calls alone: of the
+-- library it names the shape's sizes, the questions on arguments, the encoded row and the length of a cycle.
 use mathlib.Core.Bool.{Bool, true, false, cond}
 use mathlib.Core.List.{List, []}
 use Prim.Native.Nat.{ℕ, suc}

@@ -21,7 +21,7 @@ use Rattle.panel.specs.Examples.{ExamplesClaim, examples}
 pub examplesClaim : ExamplesClaim
 unfolding
     examples run calling zeroRows cleared fresh driftCall startCall stepCall started stepped steppedMemory drifted countedRows flaggedRows totalledBlocks
-    resetRows stepMatches entryAt nextAt isPlaceOf cycleAt isNext cellCount blocksOf blockAt countFlagged blockTotals rowAt rowMatch matchBytes counted flagged reset factors
-    ofDigit ofCheck schedule unitVector testVector matchByte weight ofWeight columnOrder eligible ruleColumns checkColumns matrix support digit levels largest
-    limit redundancy checks columns firstNonzero panelReading panelCall
+    resetRows stepMatches entryAt nextAt isPlaceOf cycleAt isNext cellCount blocksOf blockAt countFlagged blockTotals rowAt rowMatch matchBytes counted flagged
+    reset factors ofDigit ofCheck schedule unitVector testVector matchByte weight ofWeight columnOrder eligible ruleColumns checkColumns matrix support digit
+    levels largest limit redundancy checks columns firstNonzero panelReading panelCall
 examplesClaim = refl

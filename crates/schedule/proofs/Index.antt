@@ -115,7 +115,8 @@ module _ (z : ℕ) (s : Shape) (t : Taken s) where
       let own : s .digits - suc (s .digits - suc d) ≡ d = comp-comp (p .digit) in
       rw (index-parts ℓ d j a (p .digit))
       (stands-joined (checks s) (ofCheck z s) ℓ _ (entryOf z s ℓ d j a) (p .check)
-      (stands-joined (s .digits - z) (digitLists z s ℓ) (s .digits - suc d) _ (entryOf z s ℓ d j a) (omega (arith, p .unskipped, p .digit)) (rw own (digit-stands ℓ d j a p))))
+      (stands-joined (s .digits - z) (digitLists z s ℓ) (s .digits - suc d) _ (entryOf z s ℓ d j a) (omega (arith, p .unskipped, p .digit))
+      (rw own (digit-stands ℓ d j a p))))
 
   -- ---- each index
 
@@ -133,7 +134,16 @@ module _ (z : ℕ) (s : Shape) (t : Taken s) where
       let (j, column, held, e₃) = support-part s t ℓ (c₂ / w) (div-lt-iff-lt-mul some .1 (rw (digit-length z s ℓ d) at l₂)) in
       let (a, factor, e₄) = factor-part s two d lt (c₂ % w) (mod-lt c₂ some) in
       let place : IsPlace z s ℓ d j a =
-      record { check = check; digit = lt; unskipped = omega arith; column = column; held = held; low = factor .low; high = factor .high; undivided = factor .undivided } in
+      record {
+        check = check;
+        digit = lt;
+        unskipped = omega arith;
+        column = column;
+        held = held;
+        low = factor .low;
+        high = factor .high;
+        undivided = factor .undivided;
+      } in
       let digits : length (joined (s .digits - suc d) (digitLists z s ℓ)) ≡ length (joined i (digitLists z s ℓ)) =
       ap (λ n. length (joined n (digitLists z s ℓ))) (comp-comp within) in
       (ℓ, d, j, a, place, omega (arith, index-parts ℓ d j a lt, ap (λ x. x * w) e₃, div-add-mod' c₂ w))

@@ -53,7 +53,8 @@ turn :
     let now = c .step .result .cycle in
     let left = c .step .last .1 .1 .1 in
     (mem : Memory)
-    → Going (args .cycle .skip) (args .shape) (stateOf (withAll (args .cells .now) (args .counters .now) (args .flags .now) (args .totals .now) mem) (args .cycle))
+    → Going (args .cycle .skip) (args .shape)
+    (stateOf (withAll (args .cells .now) (args .counters .now) (args .flags .now) (args .totals .now) mem) (args .cycle))
     (args .matches .now) (now .count) (stateOf (withAll (args .cells .now) (left .0) (left .1 .0) (left .1 .1 .0) mem) now) (left .1 .1 .1 .0)
     × (now .count ≡ suc (loop .loop .now .count)) × (loop .loop .now .count < lookups (args .cycle .skip) (args .shape))
 turn c =

@@ -37,7 +37,8 @@ module _ (c : tie.After-sizes) where
   tells =
       let start = begun c in
       let s = start .args .shape in
-      subst (TellsOf s) (c .sizes .given .1) (behind-tells s (start .args .asked) (c .before .before .check-rows .result) (first start) (c .before .before .check-rows .ensures) (start .pre))
+      let rows = c .before .before .check-rows in
+      subst (TellsOf s) (c .sizes .given .1) (behind-tells s (start .args .asked) (rows .result) (first start) (rows .ensures) (start .pre))
 
   -- the product that the code asks for is m × n
   counted : begun c .args .shape .rows * c .sizes .given .0 .0 .columns ≡ cellCount (begun c .args .shape)

@@ -148,7 +148,7 @@ returns-2 c =
     record-open skip s t 0 (lookups-some skip s t lt)
     ∙ ap (λ place. openAt skip place 0) (first .first .ensures skip lt)
     ∙ sym (c .before .«open» .ensures) in
-    λ mem. gives-done (questions start) [] (lent start mem) (start .args .self) _ [] [] _ _ (cycleAt (start .args .skip) (start .args .shape) 0) _ (asked sizes .none)
+    λ mem. gives-done (questions start) [] (lent start mem) (start .args .self) _ [] [] _ _ (cycleAt skip s 0) _ (asked sizes .none)
     (c .done .ensures) refl (sym (λ i. withRows (counters i) (flags i) (totals i) mem)) cycle
 
 pub start-spec : {M : Type 1} → statement M
