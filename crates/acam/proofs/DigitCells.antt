@@ -29,10 +29,10 @@ module _ (ρ : ℕ) (cs rule : List ℕ) where
   cell-below s ℓ pos = number-below ρ s (λ t. missing ρ (checkSum (digit ρ t) ℓ cs rule)) (λ t h. mod-lt (ρ - checkSum (digit ρ t) ℓ cs rule % ρ) pos)
 
   pub next-digit :
-      (s ℓ cell sum power : ℕ) → cell ≡ cellAt ρ cs rule s ℓ → sum ≡ checkSum (digit ρ s) ℓ cs rule → power ≡ ρ ^ s
+      (s ℓ cell sum power : ℕ) → cell ≡ cellAt ρ cs rule s ℓ → sum % ρ ≡ checkSum (digit ρ s) ℓ cs rule % ρ → power ≡ ρ ^ s
       → cell + missing ρ sum * power ≡ cellAt ρ cs rule (suc s) ℓ
   unfolding number
-  next-digit s ℓ cell sum power p q e = λ i. p i + missing ρ (q i) * e i
+  next-digit s ℓ cell sum power p q e = λ i. p i + (ρ - q i) % ρ * e i
 
 pub all-digits :
     (shape : Shape) → Taken shape → (rule row : List ℕ) → length rule ≡ shape .width → take (shape .width) row ≡ rule

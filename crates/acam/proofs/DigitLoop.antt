@@ -1,4 +1,4 @@
--- A loop over the digits of a shape that is taken: its power ρ^s, what it may ask the sums of a digit for, and what it is handed.
+-- A loop over the digits of a shape that is taken: its power ρ^s, what it may ask the sums for, and that they are, mod ρ, those of digit s.
 -- Assumes nothing.
 use mathlib.Core.Path.{_≡_, sym, _∙_, ap}
 use mathlib.Core.List.{List}
@@ -12,11 +12,10 @@ use Rattle.parity.specs.Shape.{digit, levels, columns}
 use Rattle.parity.specs.Questions.{Taken}
 use Rattle.parity.specs.declared.Shape.{Shape}
 use Rattle.parity.proofs.ListLaws.{getD-tabulate}
-use Rattle.parity.proofs.Sums.{checkSum}
+use Rattle.parity.proofs.Sums.{checkSum, checkSum-same}
+use Rattle.parity.proofs.Remainders.{same-sym, same-mod}
 use Rattle.parity.proofs.Taken.{limits}
-use Rattle.acam.specs.Matrices.{matrixArray}
 use Rattle.acam.proofs.Sizes.{columns-high}
-use Rattle.acam.proofs.MatrixArray.{array-sized}
 
 module _ (shape : Shape) (t : Taken shape) (s : ℕ) where
   -- a level of s + 1 digits is a byte
@@ -37,23 +36,22 @@ module _ (shape : Shape) (t : Taken shape) (s : ℕ) where
     pub power-fits : s < shape .digits → power * shape .radix ≤ 256
     power-fits h = omega (arith, power-up, power-high h)
 
-    -- the sums can be asked for
-    pub sums-ready :
-        s < shape .digits → (cs cells : List ℕ) → cs ≡ matrixArray shape → length cells ≤ columns shape
-        → (((0 < shape .radix) × (shape .radix ≤ 256)) × ((0 < power) × (power ≤ 256))) × ((length cells ≤ length cs) × (length cs ≤ 255))
-    sums-ready h cs cells given few =
+    -- the sums of the levels over it can be asked for
+    pub power-divides : s < shape .digits → (0 < power) × (power ≤ 256)
+    power-divides h =
         let within = limits shape t in
         let pos : 0 < power = rw e (one-le-pow s (shape .radix) (omega arith)) in
         let more : power * 1 ≤ power * shape .radix = mul-le-mul-left power (omega arith) in
-        let sized : length cs ≡ 255 = ap length given ∙ array-sized shape t in
-        omega (arith, power-fits h, columns-high shape t)
+        omega (arith, power-fits h)
 
--- the sum of check row ℓ among those of the eight
+-- the sum of check row ℓ among those of the eight, mod ρ: a level over ρ^s and its digit s are congruent
 pub sum-at :
     (ρ s power : ℕ) (columns cells sums : List ℕ) → power ≡ ρ ^ s
-    → sums ≡ tabulate 8 (λ ℓ. checkSum (λ v. v / power % ρ) ℓ columns cells)
-    → (ℓ : ℕ) → ℓ < 8 → getD sums ℓ 0 ≡ checkSum (digit ρ s) ℓ columns cells
+    → sums ≡ tabulate 8 (λ ℓ. checkSum (λ v. v / power) ℓ columns cells)
+    → (ℓ : ℕ) → ℓ < 8 → getD sums ℓ 0 % ρ ≡ checkSum (digit ρ s) ℓ columns cells % ρ
 unfolding digit
 sum-at ρ s power columns cells sums e given ℓ h =
-    ap (λ xs. getD xs ℓ 0) given ∙ getD-tabulate 8 (λ ℓ. checkSum (λ v. v / power % ρ) ℓ columns cells) ℓ 0 h
-    ∙ ap (λ x. checkSum (λ v. v / x % ρ) ℓ columns cells) e
+    ap (λ x. x % ρ)
+    (ap (λ xs. getD xs ℓ 0) given ∙ getD-tabulate 8 (λ ℓ. checkSum (λ v. v / power) ℓ columns cells) ℓ 0 h
+    ∙ ap (λ x. checkSum (λ v. v / x) ℓ columns cells) e)
+    ∙ checkSum-same (λ v. v / ρ ^ s) (λ v. v / ρ ^ s % ρ) (λ v. same-sym (same-mod ρ (v / ρ ^ s))) ℓ columns cells .rem

@@ -5,6 +5,7 @@ pub mod Blocks
 pub mod MatrixArray
 pub mod Tail
 pub mod Reciprocal
+pub mod Missing
 pub mod DigitLoop
 pub mod DigitCells
 pub mod Comparison

@@ -1,16 +1,22 @@
--- The check matrix in an array of 255 bytes: its length, and the columns that its first places hold. Assumes nothing.
-use mathlib.Core.Path.{_≡_, sym, _∙_, ap}
-use Prim.Native.Nat.{ℕ, _-_}
+-- The check matrix in an array of 255 bytes: its length, the columns that its first places hold, and how they come there. Assumes nothing.
+use mathlib.Core.Path.{_≡_, sym, _∙_, ap, ap₂}
+use mathlib.Core.List.{List}
+use Prim.Native.Nat.{ℕ, _+_, _-_, _≤_}
 use native.Mathlib.Omega.{arith}
 use lib.ListN.{length, take, replicate, length-append, length-replicate}
-use lib.Seq.{take-at, take-take}
+use lib.Seq.{take-at, length-take-le}
 use Rattle.parity.specs.Shape.{checks, columns}
-use Rattle.parity.specs.Matrix.{ruleColumns, checkColumns, matrix}
+use Rattle.parity.specs.Matrix.{ruleColumns, matrix}
 use Rattle.parity.specs.Questions.{Taken}
 use Rattle.parity.specs.declared.Shape.{Shape}
+use Rattle.parity.proofs.Redundancy.{redundancyClaim}
 use Rattle.parity.proofs.MatrixFacts.{rules-sized, matrixClaim}
 use Rattle.acam.specs.Matrices.{matrixArray}
 use Rattle.acam.proofs.Sizes.{columns-high}
+
+-- the array before anything is written
+abbrev pub zeros : List ℕ
+zeros = replicate 255 0
 
 module _ (s : Shape) (t : Taken s) where
   pub array-sized : length (matrixArray s) ≡ 255
@@ -24,14 +30,23 @@ module _ (s : Shape) (t : Taken s) where
         columns-high s t,
       )
 
-  -- its first n places hold the check matrix ..
+  -- its first n places hold the check matrix
   pub array-matrix : take (columns s) (matrixArray s) ≡ matrix s
   unfolding matrixArray
   array-matrix = take-at (matrix s) (replicate (255 - columns s) 0) (columns s) (matrixClaim s t .sized)
 
-  -- .. and its first k the rule columns
-  pub array-rules : take (s .width) (matrixArray s) ≡ ruleColumns (s .errors) (checks s) (s .width)
-  unfolding matrix columns
-  array-rules =
-      sym (take-take (s .width) (columns s) (matrixArray s) (omega arith)) ∙ ap (take (s .width)) array-matrix
-      ∙ take-at (ruleColumns (s .errors) (checks s) (s .width)) (checkColumns (checks s)) (s .width) (rules-sized s t)
+module _ (s : Shape) (t : Taken s) (r : ℕ) (counted : r ≡ checks s) where
+  pub fits : s .width + r ≤ 255
+  unfolding columns
+  fits = omega (arith, columns-high s t)
+
+  -- the part of the array that is lent for the rule columns, what it is lent by, and what fills it
+  pub front : length (take (s .width) zeros) ≡ s .width
+  front = length-take-le (s .width) zeros (omega (arith, fits))
+
+  pub rules-fill : ruleColumns (s .errors) r (length (take (s .width) zeros)) ≡ ruleColumns (s .errors) (checks s) (s .width)
+  rules-fill = ap₂ (ruleColumns (s .errors)) counted front
+
+  pub rules-ask :
+      (r ≤ 8) × (length (ruleColumns (s .errors) r (length (take (s .width) zeros))) ≡ length (take (s .width) zeros))
+  rules-ask = (omega (arith, redundancyClaim s t .high), ap length rules-fill ∙ rules-sized s t ∙ sym front)

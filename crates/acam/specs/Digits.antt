@@ -1,4 +1,4 @@
--- Only serves the code's own contracts: sums of digits, check row by check row, and the digit that completes one.
+-- Only serves the code's own contracts: levels over ρ^s, added up check row by check row, and the digit that completes such a sum.
 use mathlib.Core.List.{List}
 use Prim.Native.Nat.{ℕ, _+_, _-_, _*_, _/_, _%_}
 use lib.ListN.{length, getD, take}
@@ -13,6 +13,6 @@ missing ρ sum = (ρ - sum % ρ) % ρ
 abbrev pub completed : List ℕ → List ℕ → ℕ → ℕ → ℕ → ℕ
 completed cells sums ρ power l = getD cells l 0 + missing ρ (getD sums l 0) * power
 
--- for each of 8 check rows, the digits of the cells whose columns have a one there, at ρ^s = power
-abbrev pub digitSums : List ℕ → List ℕ → ℕ → ℕ → List ℕ
-digitSums cells matrix ρ power = tabulate 8 (λ l. checkSum (λ v. v / power % ρ) l (take (length cells) matrix) cells)
+-- for each of 8 check rows, the cells whose columns have a one there, each over ρ^s = power: mod ρ, the sum of their digits s
+abbrev pub floorSums : List ℕ → List ℕ → ℕ → List ℕ
+floorSums cells matrix power = tabulate 8 (λ l. checkSum (λ v. v / power) l (take (length cells) matrix) cells)

@@ -1,7 +1,8 @@
 // The encoder: the check cells of a row from its rule cells.
-use super::matrix::matrix_of;
+use super::matrix::fill_rules;
 use super::sound::all_below;
-use super::sums::digit_sums;
+use super::sums::floor_sums;
+use super::sums::missing;
 use parity::Shape;
 use shape::answer::Outcome;
 use shape::byte::fill;
@@ -13,32 +14,33 @@ ghost use mathlib.Core.List.{[]};
 ghost use Prim.Native.Nat.{ℕ, _≤_, _<_};
 ghost use lib.ListN.{length, take};
 ghost use Rattle.parity.specs.Lists.{tabulate};
-ghost use Rattle.parity.specs.Shape.{columns as columnsOf};
+ghost use Rattle.parity.specs.Shape.{checks as checksOf, columns as columnsOf};
+ghost use Rattle.parity.specs.Matrix.{ruleColumns};
 ghost use Rattle.parity.specs.Codeword.{encode};
 ghost use Rattle.parity.specs.Questions.{Taken};
-ghost use Rattle.acam.specs.Matrices.{matrixArray};
 ghost use Rattle.acam.specs.Digits.{completed};
 ghost use Rattle.acam.specs.Rows.{encodeCall};
 ghost use Rattle.shape.specs.Answers.{outcomeSays, giving};
 ghost use Rattle.shape.specs.Lent.{was, left};
 
 // One more digit in each check cell: what brings its check row's sum to 0 mod ρ, at ρ^s = power.
-fn add_check_digits(cells: &mut [u8], sums: [usize; 8], radix: usize, power: usize)
-    requires { ⌜ (0 < radix) × (length (now cells) ≤ 8) ⌝ }
+fn add_check_digits(cells: &mut [u8], sums: [u16; 8], radix: usize, power: usize)
+    requires { ⌜ ((0 < radix) × (radix ≤ 256)) × (length (now cells) ≤ 8) ⌝ }
     requires { ⌜ ((l : ℕ) → l < length (now cells) → completed (now cells) sums radix power l < 256) ⌝ }
     ensures { λ _. ⌜ left cells ≡ tabulate (length (was cells)) (completed (was cells) sums radix power) ⌝ }
 {
+    let reciprocal = 4294967296 / radix + 1;
     let mut l: usize = 0;
     while l < cells.len() {
-        let digit = (radix - sums[l] % radix) % radix;
+        let digit = missing(sums[l], radix, reciprocal);
         cells[l] = (wide(cells[l]) + digit * power) as u8;
         l += 1;
     }
 }
 
-// The check cells of a row of n cells, from its k rule cells, digit after digit.
-pub fn write_checks(shape: Shape, row: &mut [u8], matrix: &[u8; 255])
-    requires { ⌜ Taken shape × (length (now row) ≡ columnsOf shape) × (now matrix ≡ matrixArray shape) ⌝ }
+// The check cells of a row of n cells, digit after digit, by the columns of its k rule cells.
+fn write_digits(shape: Shape, row: &mut [u8], rules: &[u8])
+    requires { ⌜ Taken shape × (length (now row) ≡ columnsOf shape) × (now rules ≡ ruleColumns (shape .errors) (checksOf shape) (shape .width)) ⌝ }
     ensures { λ _. ⌜ left row ≡ encode shape (take (shape .width) (was row)) ⌝ }
 {
     let radix = shape.radix;
@@ -48,11 +50,23 @@ pub fn write_checks(shape: Shape, row: &mut [u8], matrix: &[u8; 255])
     let mut power: usize = 1;
     let mut s: usize = 0;
     while s < digits {
-        let sums = digit_sums(&row[..width], matrix, radix, power);
+        let sums = floor_sums(&row[..width], rules, power);
         add_check_digits(&mut row[width..], sums, radix, power);
         power = power * radix;
         s += 1;
     }
+}
+
+// The check cells of a row of n cells, from its k rule cells. Their columns are all of the check matrix that it takes.
+pub fn write_checks(shape: Shape, checks: usize, row: &mut [u8])
+    requires { ⌜ Taken shape × (checks ≡ checksOf shape) × (length (now row) ≡ columnsOf shape) ⌝ }
+    ensures { λ _. ⌜ left row ≡ encode shape (take (shape .width) (was row)) ⌝ }
+{
+    let errors = shape.errors;
+    let width = shape.width;
+    let mut rules = [0u8; 255];
+    fill_rules(&mut rules[..width], errors, checks);
+    write_digits(shape, row, &rules[..width]);
 }
 
 // Writes the check cells of a row of n cells from its first k.
@@ -72,8 +86,7 @@ pub fn encode_row(shape: Shape, row: &mut [u8]) -> Outcome
             if !all_below(&row[..width], levels) {
                 return Outcome::Refused(8);
             }
-            let matrix = matrix_of(shape, checks);
-            write_checks(shape, row, &matrix);
+            write_checks(shape, checks, row);
             Outcome::Done
         }
     }

@@ -1,5 +1,6 @@
 // The test of a row for soundness: whether it is a codeword.
-use super::sums::digit_sums;
+use super::sums::floor_sums;
+use super::sums::missing;
 use parity::Shape;
 use shape::byte::wide;
 ghost use mathlib.Core.Path.{_≡_};
@@ -28,13 +29,14 @@ pub fn all_below(bytes: &[u8], bound: usize) -> bool
 }
 
 // Whether the first sums, one for each check row, are 0 mod ρ.
-fn all_balanced(sums: [usize; 8], checks: usize, radix: usize) -> bool
-    requires { ⌜ (checks ≤ 8) × (0 < radix) ⌝ }
+fn all_balanced(sums: [u16; 8], checks: usize, radix: usize) -> bool
+    requires { ⌜ (checks ≤ 8) × ((0 < radix) × (radix ≤ 256)) ⌝ }
     ensures { λ r. ⌜ r ≡ everyTo checks (λ l. eqb (getD sums l 0 % radix) 0) ⌝ }
 {
+    let reciprocal = 4294967296 / radix + 1;
     let mut l: usize = 0;
     while l < checks {
-        if sums[l] % radix != 0 {
+        if missing(sums[l], radix, reciprocal) != 0 {
             return false;
         }
         l += 1;
@@ -56,7 +58,7 @@ pub fn is_sound(shape: Shape, checks: usize, levels: usize, row: &[u8], matrix: 
     let mut power: usize = 1;
     let mut s: usize = 0;
     while s < digits {
-        let sums = digit_sums(row, matrix, radix, power);
+        let sums = floor_sums(row, matrix, power);
         if !all_balanced(sums, checks, radix) {
             return false;
         }

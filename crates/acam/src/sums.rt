@@ -1,4 +1,5 @@
-// The digits of a row's cells, added up in each check row.
+// The cells over ρ^s, added up in each check row, and the digit that completes such a sum. A level over ρ^s and its digit s
+// are the same mod ρ, so no digit is cut out of a level.
 // The sums are of 16 bits, and the products of 32, so that the compiler works on many cells at once.
 ghost use mathlib.Core.Path.{_≡_};
 ghost use Prim.Native.Nat.{ℕ, _+_, _*_, _/_, _%_, _≤_, _<_};
@@ -6,17 +7,17 @@ ghost use lib.ListN.{length, getD};
 ghost use Rattle.parity.specs.Lists.{tabulate};
 ghost use Rattle.parity.specs.Matrix.{bit};
 ghost use Rattle.shape.specs.Lent.{was, left};
-ghost use Rattle.acam.specs.Digits.{digitSums};
+ghost use Rattle.acam.specs.Digits.{missing as missingOf, floorSums};
 
-// A digit added to the sum of each check row that its column has a one in.
-fn add_digit(sums: &mut [u16; 8], column: u8, digit: u16)
-    requires { ⌜ (length (now sums) ≡ 8) × ((l : ℕ) → l < 8 → getD (now sums) l 0 + digit < 65536) ⌝ }
-    ensures { λ _. ⌜ left sums ≡ tabulate 8 (λ l. getD (was sums) l 0 + bit l column * digit) ⌝ }
+// A value added to the sum of each check row that its column has a one in.
+fn add_value(sums: &mut [u16; 8], column: u8, value: u16)
+    requires { ⌜ (length (now sums) ≡ 8) × ((l : ℕ) → l < 8 → getD (now sums) l 0 + value < 65536) ⌝ }
+    ensures { λ _. ⌜ left sums ≡ tabulate 8 (λ l. getD (was sums) l 0 + bit l column * value) ⌝ }
 {
     let mut rest = column as u16;
     let mut l: usize = 0;
     while l < 8 {
-        sums[l] = sums[l] + rest % 2 * digit;
+        sums[l] = sums[l] + rest % 2 * value;
         rest = rest / 2;
         l += 1;
     }
@@ -31,36 +32,28 @@ fn quotient(value: u32, reciprocal: u32) -> u32
     value * reciprocal / 65536
 }
 
-// The sums as the callers take them.
-fn widened(sums: [u16; 8]) -> [usize; 8]
-    requires { ⌜ ((l : ℕ) → l < 8 → getD sums l 0 < 65536) ⌝ }
-    ensures { λ r. ⌜ r ≡ tabulate 8 (λ l. getD sums l 0) ⌝ }
+// For each check row, the cells whose columns have a one there, each over ρ^s = power.
+pub(crate) fn floor_sums(cells: &[u8], matrix: &[u8], power: usize) -> [u16; 8]
+    requires { ⌜ ((0 < power) × (power ≤ 256)) × ((length (now cells) ≤ length (now matrix)) × (length (now matrix) ≤ 255)) ⌝ }
+    ensures { λ r. ⌜ r ≡ floorSums (was cells) (was matrix) power ⌝ }
 {
-    let mut wider = [0usize; 8];
-    let mut l: usize = 0;
-    while l < 8 {
-        wider[l] = sums[l] as usize;
-        l += 1;
-    }
-    wider
-}
-
-// For each check row, the digits s of the cells whose columns have a one there, where power is ρ^s.
-pub(crate) fn digit_sums(cells: &[u8], matrix: &[u8], radix: usize, power: usize) -> [usize; 8]
-    requires { ⌜ ((0 < radix) × (radix ≤ 256)) × ((0 < power) × (power ≤ 256)) ⌝ }
-    requires { ⌜ (length (now cells) ≤ length (now matrix)) × (length (now matrix) ≤ 255) ⌝ }
-    ensures { λ r. ⌜ r ≡ digitSums (was cells) (was matrix) radix power ⌝ }
-{
-    let by_power = (65536 / power + 1) as u32;
-    let by_radix = (65536 / radix + 1) as u32;
-    let base = radix as u32;
+    let reciprocal = (65536 / power + 1) as u32;
     let mut sums = [0u16; 8];
     let mut j: usize = 0;
     while j < cells.len() {
-        let high = quotient(cells[j] as u32, by_power);
-        let digit = (high - quotient(high, by_radix) * base) as u16;
-        add_digit(&mut sums, matrix[j], digit);
+        let floor = quotient(cells[j] as u32, reciprocal) as u16;
+        add_value(&mut sums, matrix[j], floor);
         j += 1;
     }
-    widened(sums)
+    sums
+}
+
+// The digit that brings a sum to 0 mod ρ: as much as is missing to a multiple of ρ. The reciprocal of ρ is taken once for
+// many sums, and exact for all of 16 bits.
+pub(crate) fn missing(sum: u16, radix: usize, reciprocal: usize) -> usize
+    requires { ⌜ ((0 < radix) × (radix ≤ 256)) × (reciprocal ≡ 4294967296 / radix + 1) ⌝ }
+    ensures { λ r. ⌜ r ≡ missingOf radix sum ⌝ }
+{
+    let from = sum as usize;
+    (from + radix - 1) * reciprocal / 4294967296 * radix - from
 }

@@ -1,6 +1,5 @@
 // Changes of the cells: the writing of a row, and drift.
 use acam::encode::write_checks;
-use acam::matrix::matrix_of;
 use array_memory::questions::check_drift;
 use parity::Shape;
 use shape::answer::Outcome;
@@ -28,8 +27,7 @@ fn program_row(shape: Shape, checks: usize, row: &mut [u8], given: &[u8])
 {
     let width = shape.width;
     copy(given, &mut row[..width]);
-    let matrix = matrix_of(shape, checks);
-    write_checks(shape, row, &matrix);
+    write_checks(shape, checks, row);
 }
 
 // What programming does to the cells, for a call that has passed its questions. It leaves the record as it is, so it

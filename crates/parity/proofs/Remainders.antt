@@ -1,7 +1,8 @@
--- Congruence modulo ρ as equal remainders: it goes through sums, and a summand can be cancelled. Assumes nothing.
+-- Congruence modulo ρ as equal remainders: it goes through sums and multiples, and a summand can be cancelled. Assumes nothing.
 use mathlib.Core.Path.{_≡_, refl, sym, _∙_, ap, ap₂}
-use Prim.Native.Nat.{ℕ, _+_, _-_, _%_, _<_}
+use Prim.Native.Nat.{ℕ, zero, suc, _+_, _-_, _*_, _%_, _<_}
 use native.Mathlib.Nat.{add-mod, mod-mod, mod-lt, mod-self, mod-eq-of-lt, zero-mod, add-zero, add-assoc, add-sub-of-le, le-of-lt, mod-add-mod}
+use native.Mathlib.Nat.{zero-mul, suc-mul}
 
 -- a record, so that a use need not write a and b
 pub record Same (ρ a b : ℕ) : Type 0 where
@@ -19,6 +20,10 @@ same-trans p q = record { rem = p .rem ∙ q .rem }
 pub same-add : {ρ a b c d : ℕ} → Same ρ a b → Same ρ c d → Same ρ (a + c) (b + d)
 same-add {ρ} {a} {b} {c} {d} p q =
     record { rem = add-mod a c ρ ∙ ap₂ (λ x y. (x + y) % ρ) (p .rem) (q .rem) ∙ sym (add-mod b d ρ) }
+
+pub same-times : {ρ a b : ℕ} (n : ℕ) → Same ρ a b → Same ρ (n * a) (n * b)
+same-times {a = a} {b = b} zero p = same-eq (zero-mul a ∙ sym (zero-mul b))
+same-times {a = a} {b = b} (suc n) p = same-trans (same-eq (suc-mul n a)) (same-trans (same-add (same-times n p) p) (same-eq (sym (suc-mul n b))))
 
 -- a number is congruent to its remainder
 pub same-mod : (ρ a : ℕ) → Same ρ (a % ρ) a

@@ -15,6 +15,7 @@ use Rattle.parity.specs.Lists.{sumOver}
 use Rattle.parity.specs.Shape.{digit}
 use Rattle.parity.specs.Matrix.{bit, placesFrom}
 use Rattle.parity.specs.Codeword.{digitSum}
+use Rattle.parity.proofs.Remainders.{Same, same-eq, same-add, same-times}
 
 -- f of each cell whose column has bit ℓ set, added up
 abbrev pub checkSum : (ℕ → ℕ) → ℕ → List ℕ → List ℕ → ℕ
@@ -76,9 +77,16 @@ checkSum-next f ℓ j cs vs hc hv =
     rw (take-suc cs j 0, take-suc vs j 0, checkSum-append f ℓ (take j cs) (getD cs j 0 ∷ []) (take j vs) (getD vs j 0 ∷ []) seam, add-zero)
 
 -- what a sum of values of at most m each can reach
-pub checkSum-high : (f : ℕ → ℕ) (m ℓ : ℕ) (cs vs : List ℕ) → ((v : ℕ) → f v ≤ m) → checkSum f ℓ cs vs ≤ m * length vs
+pub checkSum-high : (f : ℕ → ℕ) (m ℓ : ℕ) (cs vs : List ℕ) → ((i : ℕ) → i < length vs → f (getD vs i 0) ≤ m) → checkSum f ℓ cs vs ≤ m * length vs
 checkSum-high f m ℓ [] vs h = omega arith
 checkSum-high f m ℓ (c ∷ cs) [] h = omega arith
 checkSum-high f m ℓ (c ∷ cs) (v ∷ vs) h =
-    let first : bit ℓ c * f v ≤ 1 * m = mul-le-mul (le-of-suc-le-suc (bit-below ℓ c)) (h v) in
-    omega (arith, checkSum-high f m ℓ cs vs h)
+    let first : bit ℓ c * f v ≤ 1 * m = mul-le-mul (le-of-suc-le-suc (bit-below ℓ c)) (h 0 (zero-lt-suc (length vs))) in
+    omega (arith, checkSum-high f m ℓ cs vs (λ i lt. h (suc i) (suc-le-suc lt)))
+
+-- values that are congruent have congruent sums
+pub checkSum-same :
+    {ρ : ℕ} (f g : ℕ → ℕ) → ((v : ℕ) → Same ρ (f v) (g v)) → (ℓ : ℕ) (cs vs : List ℕ) → Same ρ (checkSum f ℓ cs vs) (checkSum g ℓ cs vs)
+checkSum-same f g h ℓ [] vs = same-eq refl
+checkSum-same f g h ℓ (c ∷ cs) [] = same-eq refl
+checkSum-same f g h ℓ (c ∷ cs) (v ∷ vs) = same-add (same-times (bit ℓ c) (h v)) (checkSum-same f g h ℓ cs vs)

@@ -47,10 +47,14 @@ impl Array {
 
     /// Whether the buffers have the lengths that the loops trust in.
     fn fits(&self, state: &State<&mut [u8]>) -> bool {
-        state.cells.len() == self.rows * self.columns
+        state.cells.len() == self.cells()
             && state.counters.len() == self.rows
             && state.flags.len() == self.rows
             && state.totals.len() == self.blocks()
+    }
+
+    fn cells(&self) -> usize {
+        self.rows * self.columns
     }
 
     fn blocks(&self) -> usize {
@@ -80,6 +84,21 @@ macro_rules! linked {
 }
 
 linked! {
+    fn loops_clear(
+        array: *const Array,
+        record: *mut Words,
+        cells: *mut u8,
+        counters: *mut u8,
+        flags: *mut u8,
+        totals: *mut u8,
+    );
+    fn loops_program(
+        array: *const Array,
+        record: *mut Words,
+        cells: *mut u8,
+        row: usize,
+        levels: *const u8,
+    );
     fn loops_start(
         array: *const Array,
         record: *mut Words,
@@ -100,6 +119,25 @@ linked! {
     fn loops_panel(array: *const Array, flags: *const u8, totals: *const u8, told: *mut Told);
     fn loops_reading(array: *const Array, flags: *const u8, told: *mut Told);
     fn loops_encode(array: *const Array, row: *mut u8);
+}
+
+pub fn clear(array: &Array, words: &mut Words, state: State<&mut [u8]>) {
+    assert!(array.fits(&state));
+    unsafe {
+        loops_clear(
+            array,
+            words,
+            state.cells.as_mut_ptr(),
+            state.counters.as_mut_ptr(),
+            state.flags.as_mut_ptr(),
+            state.totals.as_mut_ptr(),
+        )
+    }
+}
+
+pub fn program(array: &Array, words: &mut Words, cells: &mut [u8], row: usize, levels: &[u8]) {
+    assert!(cells.len() == array.cells() && row < array.rows && levels.len() == array.width);
+    unsafe { loops_program(array, words, cells.as_mut_ptr(), row, levels.as_ptr()) }
 }
 
 pub fn start(array: &Array, words: &mut Words, skip: usize, state: State<&mut [u8]>) {

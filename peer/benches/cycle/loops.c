@@ -1,9 +1,10 @@
-// The step, the panel and the encoder as plain loops in C, to compare speed
-// with, and a full reading of the flags beside the panel.
+// Clear, program, start, step, the panel and the encoder as plain loops in C,
+// to compare speed with, and a full reading of the flags beside the panel.
 //
 // A program in C would work out sizes and columns once, when it sets the array
 // up, and would trust its own buffers. So these leave out:
-// - questions 1 to 6, question 15 of the start, and question 8 of the encoder;
+// - questions 1 to 6, questions 7 and 8 of programming, question 15 of the
+//   start, and question 8 of the encoder;
 // - of question 9, whether the count is that of the place; a step asks that the
 //   cycle is open and that check, digit, column and factor are ones of the
 //   schedule;
@@ -29,6 +30,8 @@ struct record {
     size_t skip;  // low digits that the cycle skips
 };
 
+static const struct record idle = {.phase = IDLE};
+
 struct panel {
     size_t total, first, read;  // first is the number of rows where there is none
 };
@@ -52,12 +55,28 @@ static size_t block_end(size_t rows, size_t start)
     return rows - start < BLOCK ? rows : start + BLOCK;
 }
 
+// Counters, flags and totals 0.
+static void clear_rows(size_t rows, uint8_t *counters, uint8_t *flags,
+                       uint8_t *totals)
+{
+    memset(counters, 0, rows);
+    memset(flags, 0, rows);
+    memset(totals, 0, block_count(rows));
+}
+
+void loops_clear(const struct array *array, struct record *record,
+                 uint8_t *cells, uint8_t *counters, uint8_t *flags,
+                 uint8_t *totals)
+{
+    memset(cells, 0, array->rows * array->columns);
+    clear_rows(array->rows, counters, flags, totals);
+    *record = idle;
+}
+
 void loops_start(const struct array *array, struct record *record, size_t skip,
                  uint8_t *counters, uint8_t *flags, uint8_t *totals)
 {
-    memset(counters, 0, array->rows);
-    memset(flags, 0, array->rows);
-    memset(totals, 0, block_count(array->rows));
+    clear_rows(array->rows, counters, flags, totals);
     *record = (struct record){
         OPEN, 0, array->digits - 1, next_held(array, 0, 0), 1, 0, skip,
     };
@@ -209,4 +228,15 @@ void loops_encode(const struct array *array, uint8_t *row)
             level = level * radix + (radix - sums[l][s] % radix) % radix;
         row[array->width + l] = (uint8_t)level;
     }
+}
+
+// The row takes k levels and their check cells.
+void loops_program(const struct array *array, struct record *record,
+                   uint8_t *restrict cells, size_t row,
+                   const uint8_t *restrict levels)
+{
+    uint8_t *start = cells + row * array->columns;
+    memcpy(start, levels, array->width);
+    loops_encode(array, start);
+    *record = idle;
 }

@@ -3,10 +3,12 @@
 //! work in turn on the same buffers, which are set to the same bytes before
 //! each run, and must leave the same bytes. A run is timed in pieces; of each
 //! piece the least time of several runs counts. Words given after `--` choose
-//! the lines whose title has one of them. At the end a coarse cycle is timed
-//! beside the one of all digits, and the panel beside a full reading of the
-//! flags.
+//! the lines whose title has one of them. The works are cycles, the encoder, and
+//! a belt change: a clear and the programming of every row. At the end a coarse
+//! cycle is timed beside the one of all digits, and the panel beside a full
+//! reading of the flags.
 
+mod belt;
 mod coarse;
 mod in_c;
 mod panel;
@@ -27,7 +29,8 @@ const PATIENCE: Duration = Duration::from_secs(1);
 /// The least number of runs.
 const RUNS: usize = 7;
 
-/// The steps of one piece, and the rows of one piece of the encoder.
+/// The steps of one piece, and the rows of one piece of the encoder or of a belt
+/// change.
 const PIECE: usize = 40;
 
 #[derive(Clone, Copy, PartialEq, Eq)]
@@ -98,7 +101,13 @@ enum Work {
     Steps(Steps),
     /// The check cells of all rows, one call for each.
     Encode,
+    /// A clear and the programming of all rows, one call for each.
+    Belt,
 }
+
+/// The times of the pieces of a run by each build, no piece by C where it is not
+/// there.
+type Pieces = [Vec<Duration>; 3];
 
 fn main() {
     heading();
@@ -117,6 +126,12 @@ fn main() {
         let shape = Shape::new(2, 3, 2, width, 512);
         let first = Work::Steps(Steps::first(1_000));
         line("1,000 steps, wider", shape, first);
+    }
+    for (radix, digits) in [(2, 8), (16, 2)] {
+        for width in [60, 247] {
+            let shape = Shape::new(radix, digits, 2, width, 4096);
+            line(belt::TITLE, shape, Work::Belt);
+        }
     }
     if chosen(coarse::TITLE) {
         coarse::table(Shape::new(2, 8, 2, 60, 512), 4);
@@ -156,6 +171,7 @@ fn line(title: &str, shape: Shape, work: Work) {
     let (calls, row_steps) = match work {
         Work::Steps(Steps { steps, .. }) => (steps, steps * shape.rows),
         Work::Encode => (shape.rows, shape.rows),
+        Work::Belt => (1 + shape.rows, shape.rows),
     };
     print!("{title:18} {:5} {:6}", shape.radix, shape.digits);
     print!(" {:6} {:5} {:4}", shape.errors, shape.width, shape.rows);
@@ -199,26 +215,43 @@ fn cell(width: usize, places: usize, number: Option<f64>) -> String {
 
 /// The least time of each build, none for C where it is not there.
 fn times(shape: Shape, work: Work) -> [Option<Duration>; 3] {
-    let begin = match work {
-        Work::Steps(_) => drifted(shape),
-        Work::Encode => unencoded(shape),
+    let least = match work {
+        Work::Steps(steps) => cycle(shape, steps),
+        Work::Encode => encoder(shape),
+        Work::Belt => belt::change(shape),
     };
-    let (least, end) = least(&begin, |build, bench| run(build, shape, work, bench));
-    if let Work::Steps(steps) = work {
-        check_end(&begin, &end, steps, shape);
-    }
     least.map(|pieces| (!pieces.is_empty()).then(|| pieces.iter().sum()))
 }
 
-/// The least times of all pieces of a run by each build, no piece by C where it
-/// is not there; and what each run leaves.
+/// The least times of the pieces of a start and steps.
+fn cycle(shape: Shape, steps: Steps) -> Pieces {
+    let begin = drifted(shape);
+    let (least, end) = least(&begin, |build, bench| match build {
+        Build::Proved => proved_steps(shape, steps, bench),
+        Build::Rust => rust_steps(shape, steps, bench),
+        Build::C => c_steps(shape, steps, bench),
+    });
+    check_end(&begin, &end, steps, shape);
+    least
+}
+
+/// The least times of the encoder's pieces.
+fn encoder(shape: Shape) -> Pieces {
+    let (least, _) = least(&unencoded(shape), |build, bench| {
+        encode(build, shape, &mut bench.state.cells)
+    });
+    least
+}
+
+/// The least times of all pieces of a run by each build; and what each run
+/// leaves.
 fn least(
     begin: &Bench,
     mut run: impl FnMut(Build, &mut Bench) -> Vec<Duration>,
-) -> ([Vec<Duration>; 3], Bench) {
+) -> (Pieces, Bench) {
     let mut bench = begin.clone();
     let mut end: Option<Bench> = None;
-    let mut least: [Vec<Duration>; 3] = Default::default();
+    let mut least = Pieces::default();
     let clock = Instant::now();
     let mut runs = 0;
     while runs < RUNS || clock.elapsed() < PATIENCE {
@@ -260,16 +293,6 @@ fn check_end(begin: &Bench, end: &Bench, Steps { skip, steps }: Steps, shape: Sh
     }
 }
 
-/// One run: the times of its pieces.
-fn run(build: Build, shape: Shape, work: Work, bench: &mut Bench) -> Vec<Duration> {
-    match (work, build) {
-        (Work::Steps(steps), Build::Proved) => proved_steps(shape, steps, bench),
-        (Work::Steps(steps), Build::Rust) => rust_steps(shape, steps, bench),
-        (Work::Steps(steps), Build::C) => c_steps(shape, steps, bench),
-        (Work::Encode, _) => encode(build, shape, &mut bench.state.cells),
-    }
-}
-
 /// The times of all pieces of a work, which is told how much of it to do.
 fn timed(all: usize, mut work: impl FnMut(usize)) -> Vec<Duration> {
     (0..all)
@@ -280,6 +303,13 @@ fn timed(all: usize, mut work: impl FnMut(usize)) -> Vec<Duration> {
             clock.elapsed()
         })
         .collect()
+}
+
+/// The times of all pieces of a work on each of the items.
+fn timed_each<I: ExactSizeIterator>(mut items: I, mut work: impl FnMut(I::Item)) -> Vec<Duration> {
+    timed(items.len(), |count| {
+        items.by_ref().take(count).for_each(&mut work)
+    })
 }
 
 fn proved_steps(shape: Shape, work: Steps, bench: &mut Bench) -> Vec<Duration> {
@@ -335,15 +365,12 @@ fn c_steps(shape: Shape, work: Steps, bench: &mut Bench) -> Vec<Duration> {
 fn encode(build: Build, shape: Shape, cells: &mut [u8]) -> Vec<Duration> {
     let array = in_c::Array::new(shape);
     let columns = shape.layout().expect("a good shape").columns();
-    let mut rows = cells.chunks_exact_mut(columns);
-    timed(shape.rows, |count| {
-        let rows = rows.by_ref().take(count);
-        match build {
-            Build::Proved => rows.for_each(|row| assert_eq!(proved_calls::encode(shape, row), 0)),
-            Build::Rust => rows.for_each(|row| assert_eq!(peer::encode_row(shape, row), Ok(()))),
-            Build::C => rows.for_each(|row| in_c::encode(&array, row)),
-        }
-    })
+    let rows = cells.chunks_exact_mut(columns);
+    match build {
+        Build::Proved => timed_each(rows, |row| assert_eq!(proved_calls::encode(shape, row), 0)),
+        Build::Rust => timed_each(rows, |row| assert_eq!(peer::encode_row(shape, row), Ok(()))),
+        Build::C => timed_each(rows, |row| in_c::encode(&array, row)),
+    }
 }
 
 /// Rows of random levels, with any bytes in their check cells.

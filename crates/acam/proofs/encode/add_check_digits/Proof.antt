@@ -1,46 +1,46 @@
 -- `acam::encode::add_check_digits` meets its contract: the first l cells have their digit, the rest is as it was. Assumes nothing.
 use mathlib.Core.Path.{_≡_, refl, _∙_, ap, ap₂}
 use Prim.Native.Nat.{ℕ, _+_, _-_, _*_, _≤_, _<_}
-use native.Mathlib.Nat.{mod-lt, le-of-lt}
+use native.Mathlib.Nat.{div-le-self}
 use native.Mathlib.Omega.{arith}
 use lib.ListN.{length, getD, set, length-set}
 use borrow.Author.Needs.{needs}
 use Rattle.parity.proofs.Filled.{filled, filled-here, filled-next, filled-all}
-use Rattle.acam.specs.Digits.{missing, completed}
+use Rattle.acam.specs.Digits.{completed}
 use Rattle.acam.proofs.encode.add_check_digits.Statement.{statement}
 use Rattle.acam.proofs.encode.add_check_digits.Tie as tie
 
 abbrev Inv-loop : tie.InvT-loop
-Inv-loop cells₀ radix power sums l₀ cells l =
+Inv-loop cells₀ radix power sums reciprocal l₀ cells l =
     (l ≤ length cells₀) × (length cells ≡ length cells₀) × (cells ≡ filled (completed cells₀ sums radix power) cells₀ l)
 
 abbrev μ-loop : tie.MeasureT-loop
-μ-loop cells₀ radix power sums l₀ cells l = length cells₀ - l
+μ-loop cells₀ radix power sums reciprocal l₀ cells l = length cells₀ - l
 
 -- the places of the call and of the loop, each from one that follows
 abbrev begun : tie.At-loop Inv-loop μ-loop → tie.Start Inv-loop μ-loop
 begun c = c .before .before
 
 abbrev looped : tie.After-wide Inv-loop μ-loop → tie.At-loop Inv-loop μ-loop
-looped c = c .before .before .before
+looped c = c .before .before .before .before
+
+div-reciprocal : tie.Need-div-reciprocal Inv-loop μ-loop
+div-reciprocal c = omega arith
+
+add-reciprocal : tie.Need-add-reciprocal Inv-loop μ-loop
+add-reciprocal c = omega (arith, div-le-self 4294967296 (c .before .args .radix))
 
 loop-holds : tie.Need-loop-holds Inv-loop μ-loop
 loop-holds c = (omega arith, refl, refl)
 
-mul-digit : tie.Need-mul-digit Inv-loop μ-loop
-mul-digit c = omega arith
+mul-missing : tie.Need-mul-missing Inv-loop μ-loop
+mul-missing c = omega arith
 
-array-read-digit : tie.Need-array-read-digit Inv-loop μ-loop
-array-read-digit c = omega arith
+array-read-missing : tie.Need-array-read-missing Inv-loop μ-loop
+array-read-missing c = omega arith
 
-rem-digit : tie.Need-rem-digit Inv-loop μ-loop
-rem-digit c = omega arith
-
-sub-digit : tie.Need-sub-digit Inv-loop μ-loop
-sub-digit c = let args = begun (c .before) .args in le-of-lt (mod-lt (getD (args .t2) (c .before .loop .l) 0) (omega arith))
-
-rem-digit-2 : tie.Need-rem-digit-2 Inv-loop μ-loop
-rem-digit-2 c = omega arith
+missing-requires : tie.Need-missing-requires Inv-loop μ-loop
+missing-requires c κs = (begun (c .before) .pre .0 .0, refl)
 
 slice-read-wide : tie.Need-slice-read-wide Inv-loop μ-loop
 slice-read-wide c = omega arith
@@ -48,17 +48,20 @@ slice-read-wide c = omega arith
 wide-requires : tie.Need-wide-requires Inv-loop μ-loop
 wide-requires c κs = search needs
 
--- the cell as it was, and that it stays a byte with its digit
+-- the cell with its digit, which stays a byte
 cell :
     (c : tie.After-wide Inv-loop μ-loop)
     → let args = begun (looped c) .args in
     let l = looped c .loop .l in
-    (c .wide .result ≡ getD (args .cells .now) l 0) × (completed (args .cells .now) (args .t2) (args .radix) (args .power) l < 256)
+    let f : ℕ → ℕ = completed (args .cells .now) (args .t2) (args .radix) (args .power) in
+    (c .wide .result + c .before .before .missing .result * args .power ≡ f l) × (f l < 256)
 cell c =
     let args = begun (looped c) .args in
     let loop = looped c .loop in
     let f : ℕ → ℕ = completed (args .cells .now) (args .t2) (args .radix) (args .power) in (
-      c .wide .ensures ∙ ap (λ xs. getD xs (loop .l) 0) (loop .inv .2) ∙ filled-here f (args .cells .now) (loop .l) 0,
+      ap₂ (λ v d. v + d * args .power)
+          (c .wide .ensures ∙ ap (λ xs. getD xs (loop .l) 0) (loop .inv .2) ∙ filled-here f (args .cells .now) (loop .l) 0)
+          (c .before .before .missing .ensures),
       begun (looped c) .pre .1 (loop .l) (omega arith),
     )
 
@@ -86,7 +89,7 @@ loop-again c =
     let loop = looped c .loop in (
       omega arith,
       simp length-set (loop .inv .1),
-      ap₂ (λ xs v. set xs (loop .l) v) (loop .inv .2) (ap (λ v. v + missing (args .radix) (getD (args .t2) (loop .l) 0) * args .power) (cell c .0))
+      ap₂ (λ xs v. set xs (loop .l) v) (loop .inv .2) (cell c .0)
           ∙ filled-next (completed (args .cells .now) (args .t2) (args .radix) (args .power)) (args .cells .now) (loop .l) (omega arith),
     )
 
@@ -105,12 +108,12 @@ add-check-digits-spec =
     (tie.spec
     Inv-loop
     μ-loop
+    div-reciprocal
+    add-reciprocal
     loop-holds
-    mul-digit
-    array-read-digit
-    rem-digit
-    sub-digit
-    rem-digit-2
+    mul-missing
+    array-read-missing
+    missing-requires
     slice-read-wide
     wide-requires
     mul-cells

@@ -30,7 +30,7 @@ abbrev sized : tie.After-all-below → tie.After-sizes
 sized c = c .before .before .before .before
 
 abbrev below : tie.After-slice-known2 → tie.Else2
-below c = c .before .before .before .before .before .before
+below c = c .before .before .before .before
 
 shape-taken : (c : tie.After-sizes) → Passed (begun c .args .shape) (c .sizes .given .0 .0)
 shape-taken c = passed _ _ (told (c .before .before .check-shape .ensures) (c .sizes .given .1))
@@ -85,13 +85,10 @@ returns-2 c =
       levels-tested (args .shape) (p .levels) (take (args .shape .width) (args .row .now)) (c .before .all-below .ensures) ∙ not-true _ (c .if2 .taken),
     )))
 
-matrix-of-requires : tie.Need-matrix-of-requires
-matrix-of-requires c κs = let p = shape-taken (sized (c .before)) in (p .taken, p .checks)
-
 write-checks-requires : tie.Need-write-checks-requires
 write-checks-requires c κs =
-    let p = shape-taken (sized (c .before .before .before .before)) in
-    (p .taken, omega arith, c .before .before .matrix-of .ensures)
+    let p = shape-taken (sized (c .before .before)) in
+    (p .taken, p .checks, omega arith)
 
 returns-3 : tie.Need-returns-3
 unfolding encodeCall
@@ -133,7 +130,6 @@ encode-row-spec =
     all-below-requires
     same-length
     returns-2
-    matrix-of-requires
     write-checks-requires
     returns-3
     same-length-2

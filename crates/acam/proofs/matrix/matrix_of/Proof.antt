@@ -16,13 +16,9 @@ use Rattle.parity.specs.declared.Shape.{Shape}
 use Rattle.parity.proofs.Redundancy.{redundancyClaim}
 use Rattle.parity.proofs.MatrixFacts.{rules-sized}
 use Rattle.acam.specs.Matrices.{matrixArray}
-use Rattle.acam.proofs.Sizes.{columns-high}
+use Rattle.acam.proofs.MatrixArray.{zeros, fits, front, rules-fill, rules-ask}
 use Rattle.acam.proofs.matrix.matrix_of.Statement.{statement}
 use Rattle.acam.proofs.matrix.matrix_of.Tie as tie
-
--- the array before anything is written
-abbrev zeros : List ℕ
-zeros = replicate 255 0
 
 drop-replicate : (n m a : ℕ) → drop n (replicate m a) ≡ replicate (m - n) a
 drop-replicate zero m a = rw sub-zero
@@ -34,33 +30,17 @@ laid : (xs ys over : List ℕ) (k r : ℕ) → length xs ≡ k → putMid k (k +
 laid xs ys over k r e =
     rw (add-sub-cancel-left k r, take-at xs (drop k over) k e, drop-at xs (drop k over) k e, drop-drop r k over, append-assoc)
 
-module _ (s : Shape) (r : ℕ) (pre : Taken s × (r ≡ checks s)) where
-  fits : s .width + r ≤ 255
-  unfolding columns
-  fits = omega (arith, columns-high s (pre .0))
-
-  -- the part that is lent for the rule columns, and what fills it
-  front : length (take (s .width) zeros) ≡ s .width
-  front = length-take-le (s .width) zeros (omega (arith, fits))
-
-  rules-fill : ruleColumns (s .errors) r (length (take (s .width) zeros)) ≡ ruleColumns (s .errors) (checks s) (s .width)
-  rules-fill = ap₂ (ruleColumns (s .errors)) (pre .1) front
-
 add-end : tie.Need-add-end
-add-end c = omega (arith, fits (c .args .shape) (c .args .checks) (c .pre))
+add-end c = omega (arith, fits (c .args .shape) (c .pre .0) (c .args .checks) (c .pre .1))
 
 array-borrow-prefix-matrix : tie.Need-array-borrow-prefix-matrix
-array-borrow-prefix-matrix c = omega (arith, fits (c .args .shape) (c .args .checks) (c .pre))
+array-borrow-prefix-matrix c = omega (arith, fits (c .args .shape) (c .pre .0) (c .args .checks) (c .pre .1))
 
 slice-aggregate-fill-rules : tie.Need-slice-aggregate-fill-rules
-slice-aggregate-fill-rules c = sym (front (c .before .args .shape) (c .before .args .checks) (c .before .pre))
+slice-aggregate-fill-rules c = sym (front (c .before .args .shape) (c .before .pre .0) (c .before .args .checks) (c .before .pre .1))
 
 fill-rules-requires : tie.Need-fill-rules-requires
-fill-rules-requires c κs =
-    let s = c .before .args .shape in
-    let r = c .before .args .checks in
-    let pre = c .before .pre in
-    (omega (arith, redundancyClaim s (pre .0) .high), ap length (rules-fill s r pre) ∙ rules-sized s (pre .0) ∙ sym (front s r pre))
+fill-rules-requires c κs = rules-ask (c .before .args .shape) (c .before .pre .0) (c .before .args .checks) (c .before .pre .1)
 
 sub-fill-checks : tie.Need-sub-fill-checks
 sub-fill-checks c = search needs
@@ -78,8 +58,8 @@ part-matrix-end c =
       length-append (c .before .fill-rules .last .0) (drop k zeros),
       length-drop k zeros,
       c .before .fill-rules .kept .0,
-      front (args .shape) (args .checks) pre,
-      fits (args .shape) (args .checks) pre,
+      front (args .shape) (pre .0) (args .checks) (pre .1),
+      fits (args .shape) (pre .0) (args .checks) (pre .1),
     )
 
 fill-checks-requires : tie.Need-fill-checks-requires
@@ -103,7 +83,7 @@ returns c =
     let k = s .width in
     let rules = filled .fill-rules in
     let check = c .before .fill-checks in
-    let first : rules .last .0 ≡ ruleColumns (s .errors) (checks s) k = rules .ensures ∙ rules-fill s r (start .pre) in
+    let first : rules .last .0 ≡ ruleColumns (s .errors) (checks s) k = rules .ensures ∙ rules-fill s (start .pre .0) r (start .pre .1) in
     let count : length (take (k + r - k) (drop k (rules .last .0 ++ drop k zeros))) ≡ checks s
     = sym (c .before .before .matrix3 .given .1) ∙ add-sub-cancel-left k r ∙ start .pre .1 in
     let behind : check .last .0 ≡ checkColumns (checks s) = check .ensures ∙ ap checkColumns count in

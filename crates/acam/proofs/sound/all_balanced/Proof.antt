@@ -4,6 +4,7 @@ use mathlib.Core.Path.{_≡_, refl, sym, _∙_, ap}
 use mathlib.Core.Bool.{Bool, true, false, not-eq-not, and-eq-true-iff}
 use mathlib.Core.List.{List}
 use Prim.Native.Nat.{ℕ, _-_, _%_, _≤_}
+use native.Mathlib.Nat.{div-le-self}
 use native.Mathlib.Numerals.{add-one}
 use native.Mathlib.Omega.{arith}
 use lib.Dec.{eqb}
@@ -11,6 +12,7 @@ use lib.ListN.{getD}
 use borrow.Author.Tests.{eqb-true, eq-eqb}
 use Rattle.parity.specs.Lists.{everyTo}
 use Rattle.parity.proofs.ListLaws.{everyTo-at}
+use Rattle.acam.proofs.Missing.{missing-none, none-missing}
 use Rattle.acam.proofs.sound.all_balanced.Statement.{statement}
 use Rattle.acam.proofs.sound.all_balanced.Tie as tie
 
@@ -18,29 +20,42 @@ abbrev balanced : List ℕ → ℕ → ℕ → Bool
 balanced sums radix l = eqb (getD sums l 0 % radix) 0
 
 abbrev Inv-loop : tie.InvT-loop
-Inv-loop checks radix sums l₀ l = (l ≤ checks) × (everyTo l (balanced sums radix) ≡ true)
+Inv-loop checks radix sums reciprocal l₀ l = (l ≤ checks) × (everyTo l (balanced sums radix) ≡ true)
 
 abbrev μ-loop : tie.MeasureT-loop
-μ-loop checks radix sums l₀ l = checks - l
+μ-loop checks radix sums reciprocal l₀ l = checks - l
+
+-- the loop's place, from that where a sum's missing digit is known
+abbrev looped : tie.After-missing Inv-loop μ-loop → tie.At-loop Inv-loop μ-loop
+looped c = c .before .before
+
+div-reciprocal : tie.Need-div-reciprocal Inv-loop μ-loop
+div-reciprocal c = omega arith
+
+add-reciprocal : tie.Need-add-reciprocal Inv-loop μ-loop
+add-reciprocal c = omega (arith, div-le-self 4294967296 (c .args .radix))
 
 loop-holds : tie.Need-loop-holds Inv-loop μ-loop
 loop-holds c = (omega arith, refl)
 
-mul-if1 : tie.Need-mul-if1 Inv-loop μ-loop
-mul-if1 c = omega arith
+mul-missing : tie.Need-mul-missing Inv-loop μ-loop
+mul-missing c = omega arith
 
-array-read-if1 : tie.Need-array-read-if1 Inv-loop μ-loop
-array-read-if1 c = omega arith
+array-read-missing : tie.Need-array-read-missing Inv-loop μ-loop
+array-read-missing c = omega arith
 
-rem-if1 : tie.Need-rem-if1 Inv-loop μ-loop
-rem-if1 c = omega arith
+missing-requires : tie.Need-missing-requires Inv-loop μ-loop
+missing-requires c κs = (c .before .before .pre .1, refl)
 
 returns : tie.Need-returns Inv-loop μ-loop
 returns c =
-    let args = c .before .before .before .args in
-    let loop = c .before .before .loop in
+    let args = looped (c .before) .before .args in
+    let loop = looped (c .before) .loop in
     sym (not-eq-not {b = false} .0
-    (λ all. c .if1 .taken (eqb-true _ 0 (everyTo-at (args .checks) (balanced (args .t1) (args .radix)) all (loop .l) (omega arith)))))
+    (λ all. c .if1 .taken
+    (c .before .missing .ensures
+    ∙ missing-none (args .radix) (getD (args .t1) (loop .l) 0) (omega arith)
+    (eqb-true _ 0 (everyTo-at (args .checks) (balanced (args .t1) (args .radix)) all (loop .l) (omega arith))))))
 
 add-l : tie.Need-add-l Inv-loop μ-loop
 add-l c = omega arith
@@ -50,11 +65,12 @@ loop-less c = omega arith
 
 loop-again : tie.Need-loop-again Inv-loop μ-loop
 loop-again c =
-    let args = c .before .before .before .args in
-    let loop = c .before .before .loop in (
+    let args = looped (c .before) .before .args in
+    let loop = looped (c .before) .loop in
+    let zero = none-missing (args .radix) (getD (args .t1) (loop .l) 0) (omega arith) (sym (c .before .missing .ensures) ∙ c .if1 .left) in (
       omega arith,
       ap (λ n. everyTo n (balanced (args .t1) (args .radix))) (add-one (loop .l))
-          ∙ and-eq-true-iff (everyTo (loop .l) (balanced (args .t1) (args .radix))) _ .1 (loop .inv .1, eq-eqb _ 0 (c .if1 .left)),
+          ∙ and-eq-true-iff (everyTo (loop .l) (balanced (args .t1) (args .radix))) _ .1 (loop .inv .1, eq-eqb _ 0 zero),
     )
 
 returns-2 : tie.Need-returns-2 Inv-loop μ-loop
@@ -69,10 +85,12 @@ all-balanced-spec =
     (tie.spec
     Inv-loop
     μ-loop
+    div-reciprocal
+    add-reciprocal
     loop-holds
-    mul-if1
-    array-read-if1
-    rem-if1
+    mul-missing
+    array-read-missing
+    missing-requires
     returns
     add-l
     loop-less

@@ -24,8 +24,9 @@ use Rattle.parity.proofs.MatrixFacts.{matrixClaim}
 use Rattle.parity.proofs.CodewordTest.{codeword-test, codeword-passes}
 use Rattle.shape.proofs.Refusals.{levels-tested}
 use Rattle.acam.specs.Matrices.{matrixArray}
-use Rattle.acam.proofs.DigitLoop.{power-next, power-fits, sums-ready, sum-at}
-use Rattle.acam.proofs.MatrixArray.{array-matrix}
+use Rattle.acam.proofs.DigitLoop.{power-next, power-fits, power-divides, sum-at}
+use Rattle.acam.proofs.Sizes.{columns-high}
+use Rattle.acam.proofs.MatrixArray.{array-sized, array-matrix}
 use Rattle.acam.proofs.sound.is_sound.Statement.{statement}
 use Rattle.acam.proofs.sound.is_sound.Tie as tie
 
@@ -55,7 +56,7 @@ abbrev μ-loop : tie.MeasureT-loop
 abbrev begun : tie.At-loop Inv-loop μ-loop → tie.Start Inv-loop μ-loop
 begun c = c .before .before .before .before
 
-abbrev looped : tie.After-digit-sums Inv-loop μ-loop → tie.At-loop Inv-loop μ-loop
+abbrev looped : tie.After-floor-sums Inv-loop μ-loop → tie.At-loop Inv-loop μ-loop
 looped c = c .before .before .before
 
 balance :
@@ -81,12 +82,14 @@ returns c =
 loop-holds : tie.Need-loop-holds Inv-loop μ-loop
 loop-holds c = (omega arith, sym (pow-zero (c .before .before .before .args .shape .radix)), λ t h. absurd (omega arith))
 
-digit-sums-requires : tie.Need-digit-sums-requires Inv-loop μ-loop
-digit-sums-requires c κs =
+floor-sums-requires : tie.Need-floor-sums-requires Inv-loop μ-loop
+floor-sums-requires c κs =
     let start = begun (c .before .before) in
     let loop = c .before .before .loop in
-    sums-ready (start .args .shape) (start .pre .0 .0) (loop .s) (loop .power) (loop .inv .1) (omega arith) (start .args .matrix .now)
-    (start .args .row .now) (start .pre .1 .1) (omega arith)
+    let sized : length (start .args .matrix .now) ≡ 255 = ap length (start .pre .1 .1) ∙ array-sized (start .args .shape) (start .pre .0 .0) in (
+      power-divides (start .args .shape) (start .pre .0 .0) (loop .s) (loop .power) (loop .inv .1) (omega arith),
+      omega (arith, columns-high (start .args .shape) (start .pre .0 .0)),
+    )
 
 all-balanced-requires : tie.Need-all-balanced-requires Inv-loop μ-loop
 all-balanced-requires c κs =
@@ -95,18 +98,17 @@ all-balanced-requires c κs =
 
 -- the sums that are tested are those of digit s
 tested :
-    (c : tie.After-digit-sums Inv-loop μ-loop)
+    (c : tie.After-floor-sums Inv-loop μ-loop)
     → let args = begun (looped c) .args in
     (ℓ : ℕ) → ℓ < args .checks
-    → getD (c .digit-sums .result) ℓ 0 % args .shape .radix
+    → getD (c .floor-sums .result) ℓ 0 % args .shape .radix
     ≡ rowSum (args .shape .radix) (args .matrix .now) (args .row .now) (looped c .loop .s) ℓ % args .shape .radix
 tested c ℓ h =
     let start = begun (looped c) in
     let args = start .args in
     let loop = looped c .loop in
-    ap (λ x. x % args .shape .radix)
-    (sum-at (args .shape .radix) (loop .s) (loop .power) (take (length (args .row .now)) (args .matrix .now)) (args .row .now) (c .digit-sums .result)
-    (loop .inv .1) (c .digit-sums .ensures) ℓ (omega (arith, redundancyClaim (args .shape) (start .pre .0 .0) .high)))
+    sum-at (args .shape .radix) (loop .s) (loop .power) (take (length (args .row .now)) (args .matrix .now)) (args .row .now) (c .floor-sums .result)
+    (loop .inv .1) (c .floor-sums .ensures) ℓ (omega (arith, redundancyClaim (args .shape) (start .pre .0 .0) .high))
 
 returns-2 : tie.Need-returns-2 Inv-loop μ-loop
 returns-2 c =
@@ -148,7 +150,7 @@ loop-again c =
       power-next (args .shape) (start .pre .0 .0) (loop .s) (loop .power) (loop .inv .1),
       below-more (Balanced (args .shape .radix) (args .checks) (args .matrix .now) (args .row .now)) (loop .s) (loop .inv .2)
           (λ ℓ h. sym (tested (c .before .before) ℓ h)
-          ∙ eqb-true _ 0 (everyTo-at (args .checks) (λ l. eqb (getD (c .before .before .digit-sums .result) l 0 % args .shape .radix) 0) passes ℓ h)),
+          ∙ eqb-true _ 0 (everyTo-at (args .checks) (λ l. eqb (getD (c .before .before .floor-sums .result) l 0 % args .shape .radix) 0) passes ℓ h)),
     )
 
 returns-3 : tie.Need-returns-3 Inv-loop μ-loop
@@ -174,7 +176,7 @@ is-sound-spec =
     all-below-requires
     returns
     loop-holds
-    digit-sums-requires
+    floor-sums-requires
     all-balanced-requires
     returns-2
     mul-power

@@ -12,7 +12,10 @@ mul-result c =
     omega (arith, mul-le-mul {n₁ = c .args .value} {m₁ = c .args .reciprocal} {n₂ = 256} {m₂ = 65537} (omega arith) (omega arith))
 
 returns : tie.Need-returns
-returns c d pos high e = ap (λ m. c .args .value * m / 65536) e ∙ by-product (c .args .value) d (omega arith) pos high
+returns c d pos high e =
+    let v = c .args .value in
+    ap (λ m. v * m / 65536) e
+    ∙ by-product 65536 v d (omega (arith, mul-le-mul {n₁ = v} {m₁ = d} {n₂ = 255} {m₂ = 256} (omega arith) high)) pos
 
 pub quotient-spec : {M : Type 1} → statement M
 quotient-spec = tie.close (tie.spec mul-result returns)

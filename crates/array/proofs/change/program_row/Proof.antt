@@ -17,7 +17,7 @@ abbrev begun : tie.After-copy → tie.Start
 begun c = c .before .before .before .before
 
 abbrev copied : tie.After-slice-known3 → tie.After-copy
-copied c = c .before .before .before .before .before .before .before .before
+copied c = c .before .before .before .before .before .before
 
 -- the rule cells are within the row
 rules-within : (c : tie.Start) → c .args .shape .width ≤ length (c .args .row .now)
@@ -36,9 +36,6 @@ slice-aggregate-copy c = sym (front (c .before .before .before))
 
 copy-requires : tie.Need-copy-requires
 copy-requires c κs = search needs
-
-matrix-of-requires : tie.Need-matrix-of-requires
-matrix-of-requires c κs = search needs
 
 write-checks-requires : tie.Need-write-checks-requires
 write-checks-requires c κs = search needs
@@ -65,7 +62,6 @@ program-row-spec =
     slice-relend-prefix-copy
     slice-aggregate-copy
     copy-requires
-    matrix-of-requires
     write-checks-requires
     same-length
     returns)

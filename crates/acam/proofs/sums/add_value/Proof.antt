@@ -1,4 +1,4 @@
--- `acam::sums::add_digit` meets its contract: the first l sums have the digit added, and what is left of the column is its bits from l on.
+-- `acam::sums::add_value` meets its contract: the first l sums have the value added, and what is left of the column is its bits from l on.
 -- Assumes nothing.
 use mathlib.Core.Path.{_≡_, refl, sym, _∙_, ap, ap₂}
 use mathlib.Core.List.{List}
@@ -11,12 +11,12 @@ use Rattle.parity.specs.Lists.{tabulate}
 use Rattle.parity.specs.Shape.{digit}
 use Rattle.parity.specs.Matrix.{bit}
 use Rattle.parity.proofs.Filled.{filled, filled-here, filled-next, filled-all}
-use Rattle.acam.proofs.sums.add_digit.Statement.{statement}
-use Rattle.acam.proofs.sums.add_digit.Tie as tie
+use Rattle.acam.proofs.sums.add_value.Statement.{statement}
+use Rattle.acam.proofs.sums.add_value.Tie as tie
 
--- the sum of check row l with the digit added
+-- the sum of check row l with the value added
 abbrev added : List ℕ → ℕ → ℕ → ℕ → ℕ
-added sums column d l = getD sums l 0 + bit l column * d
+added sums column v l = getD sums l 0 + bit l column * v
 
 -- the sum of check row l, not yet written
 unwritten : (f : ℕ → ℕ) (old new : List ℕ) (l : ℕ) → new ≡ filled f old l → getD new l 0 ≡ getD old l 0
@@ -30,10 +30,10 @@ shift : (column l : ℕ) → column / 2 ^ l / 2 ≡ column / 2 ^ (l + 1)
 shift column l = div-div-eq-div-mul column (2 ^ l) 2 ∙ ap (λ x. column / x) (sym (pow-suc 2 l) ∙ ap (λ n. 2 ^ n) (sym (add-one l)))
 
 abbrev Inv-loop : tie.InvT-loop
-Inv-loop sums₀ column digit rest₀ l₀ sums rest l = (l ≤ 8) × (sums ≡ filled (added sums₀ column digit) sums₀ l) × (rest ≡ column / 2 ^ l)
+Inv-loop sums₀ column value rest₀ l₀ sums rest l = (l ≤ 8) × (sums ≡ filled (added sums₀ column value) sums₀ l) × (rest ≡ column / 2 ^ l)
 
 abbrev μ-loop : tie.MeasureT-loop
-μ-loop sums₀ column digit rest₀ l₀ sums rest l = 8 - l
+μ-loop sums₀ column value rest₀ l₀ sums rest l = 8 - l
 
 loop-holds : tie.Need-loop-holds Inv-loop μ-loop
 loop-holds c = (omega arith, refl, sym (div-one (c .args .column)))
@@ -45,7 +45,7 @@ element-copy-out-sums : tie.Need-element-copy-out-sums Inv-loop μ-loop
 element-copy-out-sums c = omega arith
 
 mul-sums-2 : tie.Need-mul-sums-2 Inv-loop μ-loop
-mul-sums-2 c = omega (arith, bit-times (c .before .before .loop .rest) (c .before .before .before .args .digit))
+mul-sums-2 c = omega (arith, bit-times (c .before .before .loop .rest) (c .before .before .before .args .value))
 
 add-sums : tie.Need-add-sums Inv-loop μ-loop
 add-sums c =
@@ -53,8 +53,8 @@ add-sums c =
     let loop = c .before .before .loop in
     omega (
       arith,
-      bit-times (loop .rest) (args .digit),
-      unwritten (added (args .sums .now) (args .column) (args .digit)) (args .sums .now) (loop .sums) (loop .l) (loop .inv .1),
+      bit-times (loop .rest) (args .value),
+      unwritten (added (args .sums .now) (args .column) (args .value)) (args .sums .now) (loop .sums) (loop .l) (loop .inv .1),
       c .before .before .before .pre .1 (loop .l) (omega arith),
     )
 
@@ -75,10 +75,10 @@ unfolding digit
 loop-again c =
     let args = c .before .before .before .args in
     let loop = c .before .before .loop in
-    let f : ℕ → ℕ = added (args .sums .now) (args .column) (args .digit) in (
+    let f : ℕ → ℕ = added (args .sums .now) (args .column) (args .value) in (
       omega arith,
       ap₂ (λ xs v. set xs (loop .l) v) (loop .inv .1)
-          (ap₂ (λ x y. x + y * args .digit) (unwritten f (args .sums .now) (loop .sums) (loop .l) (loop .inv .1)) (ap (λ x. x % 2) (loop .inv .2)))
+          (ap₂ (λ x y. x + y * args .value) (unwritten f (args .sums .now) (loop .sums) (loop .l) (loop .inv .1)) (ap (λ x. x % 2) (loop .inv .2)))
           ∙ filled-next f (args .sums .now) (loop .l) (omega arith),
       ap (λ x. x / 2) (loop .inv .2) ∙ shift (args .column) (loop .l),
     )
@@ -86,12 +86,12 @@ loop-again c =
 returns : tie.Need-returns Inv-loop μ-loop
 returns c =
     let args = c .before .before .args in
-    let f : ℕ → ℕ = added (args .sums .now) (args .column) (args .digit) in
+    let f : ℕ → ℕ = added (args .sums .now) (args .column) (args .value) in
     let sized : length (args .sums .now) ≡ 8 = omega arith in
     c .before .loop .inv .1 ∙ filled-all f (args .sums .now) (c .before .loop .l) (omega arith) ∙ ap (λ n. tabulate n f) sized
 
-pub add-digit-spec : {M : Type 1} → statement M
-add-digit-spec =
+pub add-value-spec : {M : Type 1} → statement M
+add-value-spec =
     tie.close
     (tie.spec
     Inv-loop
