@@ -2,6 +2,7 @@
 use super::sums::floor_sums;
 use super::sums::missing;
 use parity::Shape;
+use shape::byte::largest;
 use shape::byte::wide;
 ghost use mathlib.Core.Path.{_≡_};
 ghost use Prim.Native.Nat.{_%_, _≤_, _<_};
@@ -18,14 +19,10 @@ ghost use Rattle.shape.specs.Lent.{was};
 pub fn all_below(bytes: &[u8], bound: usize) -> bool
     ensures { λ r. ⌜ r ≡ every (λ v. ltb v bound) (was bytes) ⌝ }
 {
-    let mut j: usize = 0;
-    while j < bytes.len() {
-        if bound <= wide(bytes[j]) {
-            return false;
-        }
-        j += 1;
+    if bytes.len() == 0 {
+        return true;
     }
-    true
+    wide(largest(bytes)) < bound
 }
 
 // Whether the first sums, one for each check row, are 0 mod ρ.

@@ -1,6 +1,7 @@
 // The passes of a step over the rows.
 use acam::compare::answers;
 use shape::byte::fill;
+use shape::byte::largest;
 use shape::byte::wide;
 ghost use mathlib.Core.Path.{_≡_};
 ghost use Prim.Native.Nat.{ℕ, _*_, _≤_, _<_};
@@ -25,22 +26,6 @@ pub fn match_column(cells: &[u8], columns: usize, column: usize, input: u8, matc
         at += columns;
         i += 1;
     }
-}
-
-// The largest of the bytes, 0 where there is none.
-fn largest(bytes: &[u8]) -> u8
-    ensures { λ r. ⌜ ((i : ℕ) → i < length (was bytes) → getD (was bytes) i 0 ≤ r) ⌝ }
-{
-    let mut most: u8 = 0;
-    let mut i: usize = 0;
-    while i < bytes.len() {
-        let byte = bytes[i];
-        if most < byte {
-            most = byte;
-        }
-        i += 1;
-    }
-    most
 }
 
 // Counters below ρ, as accepted steps leave them, need no remainder.

@@ -1,7 +1,9 @@
-// A byte read as a number, and bytes filled with one value or copied.
+// A byte read as a number, bytes filled with one value or copied, and the largest of them.
 ghost use mathlib.Core.Path.{_≡_};
+ghost use Prim.Native.Nat.{ℕ, _<_};
+ghost use lib.Dec.{ltb};
 ghost use lib.ListN.{length, replicate};
-ghost use Rattle.parity.specs.Lists.{filledFrom};
+ghost use Rattle.parity.specs.Lists.{every, filledFrom};
 ghost use Rattle.shape.specs.Lent.{was, left};
 
 // As a function of its own, so that a byte read from a buffer asks for its place alone.
@@ -33,4 +35,21 @@ pub fn copy(from: &[u8], to: &mut [u8])
         to[i] = from[i];
         i += 1;
     }
+}
+
+// The largest of the bytes, 0 where there is none: it is below a bound exactly where all of them are. No byte ends the loop,
+// so that it is compiled to vector code.
+pub fn largest(bytes: &[u8]) -> u8
+    ensures { λ r. ⌜ ((bound : ℕ) → 0 < bound → every (λ v. ltb v bound) (was bytes) ≡ ltb r bound) ⌝ }
+{
+    let mut most: u8 = 0;
+    let mut i: usize = 0;
+    while i < bytes.len() {
+        let byte = bytes[i];
+        if most < byte {
+            most = byte;
+        }
+        i += 1;
+    }
+    most
 }

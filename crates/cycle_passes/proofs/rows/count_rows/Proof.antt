@@ -1,6 +1,12 @@
 -- `cycle_passes::rows::count_rows` meets its contract: counters of which the largest is below ρ are all below it. Assumes nothing.
+use mathlib.Core.Path.{_≡_, _∙_}
+use mathlib.Core.Bool.{true}
 use native.Mathlib.Omega.{arith}
+use lib.Dec.{ltb}
 use borrow.Author.Needs.{needs}
+use borrow.Author.Tests.{ltb-true, lt-ltb}
+use Rattle.parity.specs.Lists.{every}
+use Rattle.parity.proofs.ListLaws.{every-at}
 use Rattle.cycle_passes.proofs.rows.count_rows.Statement.{statement}
 use Rattle.cycle_passes.proofs.rows.count_rows.Tie as tie
 
@@ -21,7 +27,12 @@ cast-count-below : tie.Need-cast-count-below
 cast-count-below c = search needs
 
 count-below-requires : tie.Need-count-below-requires
-count-below-requires c κs = (omega arith, λ i h. (omega (arith, known c .largest .ensures i h), begun (known c) .pre .2 i h))
+count-below-requires c κs =
+    let start = begun (known c) in
+    let counters = start .args .counters .now in
+    let all : every (λ v. ltb v (start .args .radix)) counters ≡ true
+    = known c .largest .ensures (start .args .radix) (omega arith) ∙ lt-ltb (known c .largest .result) (start .args .radix) (omega arith) in
+    (omega arith, λ i h. (ltb-true _ _ (every-at (λ v. ltb v (start .args .radix)) counters 0 all i h), start .pre .2 i h))
 
 same-length : tie.Need-same-length
 same-length c = search needs
