@@ -1,5 +1,5 @@
 -- The digit that brings a sum to 0 mod ρ: what is missing to the next multiple of ρ, and 0 exactly where the sum is one. Assumes nothing.
-use mathlib.Core.Path.{_≡_, sym, _∙_, ap}
+use mathlib.Core.Path.{_≡_, _∙_, ap}
 use mathlib.Core.Logic.{⊎-elim}
 use Prim.Native.Nat.{ℕ, _+_, _-_, _*_, _/_, _%_, _≤_, _<_}
 use native.Mathlib.Nat.{div-add-mod', mod-lt, mod-self, mod-eq-of-lt, div-eq-of-lt-le, sub-zero, eq-zero-or-pos}

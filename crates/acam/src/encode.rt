@@ -29,10 +29,9 @@ fn add_check_digits(cells: &mut [u8], sums: [u16; 8], radix: usize, power: usize
     requires { ⌜ ((l : ℕ) → l < length (now cells) → completed (now cells) sums radix power l < 256) ⌝ }
     ensures { λ _. ⌜ left cells ≡ tabulate (length (was cells)) (completed (was cells) sums radix power) ⌝ }
 {
-    let reciprocal = 4294967296 / radix + 1;
     let mut l: usize = 0;
     while l < cells.len() {
-        let digit = missing(sums[l], radix, reciprocal);
+        let digit = missing(sums[l], radix);
         cells[l] = (wide(cells[l]) + digit * power) as u8;
         l += 1;
     }
@@ -57,7 +56,7 @@ fn write_digits(shape: Shape, row: &mut [u8], rules: &[u8])
     }
 }
 
-// The check cells of a row of n cells, from its k rule cells. Their columns are all of the check matrix that it takes.
+// The check cells of a row of n cells, from its k rule cells. Of the check matrix it makes the columns of these alone.
 pub fn write_checks(shape: Shape, checks: usize, row: &mut [u8])
     requires { ⌜ Taken shape × (checks ≡ checksOf shape) × (length (now row) ≡ columnsOf shape) ⌝ }
     ensures { λ _. ⌜ left row ≡ encode shape (take (shape .width) (was row)) ⌝ }

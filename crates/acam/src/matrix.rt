@@ -60,6 +60,7 @@ fn fill_lightest(part: &mut [u8], errors: usize, checks: usize)
     }
 }
 
+// The rule columns, as many as the part holds: 1 in each for τ = 1, else the lightest eligible ones.
 pub(crate) fn fill_rules(part: &mut [u8], errors: usize, checks: usize)
     requires { ⌜ (checks ≤ 8) × (length (ruleColumns errors checks (length (now part))) ≡ length (now part)) ⌝ }
     ensures { λ _. ⌜ left part ≡ ruleColumns errors checks (length (was part)) ⌝ }

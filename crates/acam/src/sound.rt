@@ -30,10 +30,9 @@ fn all_balanced(sums: [u16; 8], checks: usize, radix: usize) -> bool
     requires { ⌜ (checks ≤ 8) × ((0 < radix) × (radix ≤ 256)) ⌝ }
     ensures { λ r. ⌜ r ≡ everyTo checks (λ l. eqb (getD sums l 0 % radix) 0) ⌝ }
 {
-    let reciprocal = 4294967296 / radix + 1;
     let mut l: usize = 0;
     while l < checks {
-        if missing(sums[l], radix, reciprocal) != 0 {
+        if missing(sums[l], radix) != 0 {
             return false;
         }
         l += 1;

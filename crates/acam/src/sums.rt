@@ -1,8 +1,8 @@
-// The cells over ρ^s, added up in each check row, and the digit that completes such a sum. A level over ρ^s and its digit s
-// are the same mod ρ, so no digit is cut out of a level.
+// The cells over ρ^s, added up in each check row, and the digit that completes such a sum. A level over ρ^s, rounded down, is
+// its digit s mod ρ, so the digit itself is not taken out of it.
 // The sums are of 16 bits, and the products of 32, so that the compiler works on many cells at once.
 ghost use mathlib.Core.Path.{_≡_};
-ghost use Prim.Native.Nat.{ℕ, _+_, _*_, _/_, _%_, _≤_, _<_};
+ghost use Prim.Native.Nat.{ℕ, _+_, _*_, _/_, _≤_, _<_};
 ghost use lib.ListN.{length, getD};
 ghost use Rattle.parity.specs.Lists.{tabulate};
 ghost use Rattle.parity.specs.Matrix.{bit};
@@ -48,12 +48,13 @@ pub(crate) fn floor_sums(cells: &[u8], matrix: &[u8], power: usize) -> [u16; 8]
     sums
 }
 
-// The digit that brings a sum to 0 mod ρ: as much as is missing to a multiple of ρ. The reciprocal of ρ is taken once for
-// many sums, and exact for all of 16 bits.
-pub(crate) fn missing(sum: u16, radix: usize, reciprocal: usize) -> usize
-    requires { ⌜ ((0 < radix) × (radix ≤ 256)) × (reciprocal ≡ 4294967296 / radix + 1) ⌝ }
+// The digit that brings a sum to 0 mod ρ: as much as is missing to the next multiple of ρ. The division by ρ is a product
+// again, now with 2^32 / ρ + 1, exact for every sum of 16 bits; of a loop over sums the compiler takes the reciprocal out.
+pub(crate) fn missing(sum: u16, radix: usize) -> usize
+    requires { ⌜ (0 < radix) × (radix ≤ 256) ⌝ }
     ensures { λ r. ⌜ r ≡ missingOf radix sum ⌝ }
 {
+    let reciprocal = 4294967296 / radix + 1;
     let from = sum as usize;
     (from + radix - 1) * reciprocal / 4294967296 * radix - from
 }

@@ -1,6 +1,6 @@
-// The calls by their header: document 01's rows M1 and M2, a drift, the cycle that finds it, what
-// the panel is told, coarse cycles, and refusals. The exit status is the number of the first line
-// that is not as it should be, modulo 255 and never 0, or 0.
+// The calls by their header: document 01's rows M1, M2 and M5, a drift, the cycle that finds it,
+// what the panel is told, coarse cycles, and refusals. The exit status is the number of the first
+// line that is not as it should be, modulo 255 and never 0, or 0.
 #include "jorivelune.h"
 
 #include <string.h>
@@ -149,8 +149,31 @@ static int coarse_cycles(void)
     return 0;
 }
 
+// M5: the check digit of one decimal digit is not that of the other, so each has to be worked out
+// at its own power of ten. A row that is off in either digit is not sound.
+static int decimal_digits(void)
+{
+    const struct jorivelune_shape shape = {10, 2, 2, 1, 1};
+    const uint8_t m5[3] = {37, 73, 73};
+    size_t record[JORIVELUNE_WORDS] = {0};
+    uint8_t cells[3], counters[1], flags[1], totals[1];
+    bool holds = false;
+
+    EXPECT(jorivelune_clear(record, shape, cells, 3, counters, 1, flags, 1, totals, 1) == 0);
+    EXPECT(jorivelune_program(record, shape, cells, 3, 0, m5, 1) == 0);
+    EXPECT(memcmp(cells, m5, 3) == 0);
+    EXPECT(jorivelune_sound(shape, cells, 3, 0, &holds) == 0 && holds);
+    EXPECT(jorivelune_drift(shape, cells, 3, 0, 2, 74) == 0);
+    EXPECT(jorivelune_sound(shape, cells, 3, 0, &holds) == 0 && !holds);
+    EXPECT(jorivelune_drift(shape, cells, 3, 0, 2, 83) == 0);
+    EXPECT(jorivelune_sound(shape, cells, 3, 0, &holds) == 0 && !holds);
+    return 0;
+}
+
 int main(void)
 {
     int wrong = whole_cycle();
-    return wrong ? wrong : coarse_cycles();
+    if (!wrong)
+        wrong = coarse_cycles();
+    return wrong ? wrong : decimal_digits();
 }

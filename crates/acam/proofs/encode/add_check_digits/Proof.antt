@@ -1,7 +1,6 @@
 -- `acam::encode::add_check_digits` meets its contract: the first l cells have their digit, the rest is as it was. Assumes nothing.
 use mathlib.Core.Path.{_≡_, refl, _∙_, ap, ap₂}
 use Prim.Native.Nat.{ℕ, _+_, _-_, _*_, _≤_, _<_}
-use native.Mathlib.Nat.{div-le-self}
 use native.Mathlib.Omega.{arith}
 use lib.ListN.{length, getD, set, length-set}
 use borrow.Author.Needs.{needs}
@@ -11,11 +10,11 @@ use Rattle.acam.proofs.encode.add_check_digits.Statement.{statement}
 use Rattle.acam.proofs.encode.add_check_digits.Tie as tie
 
 abbrev Inv-loop : tie.InvT-loop
-Inv-loop cells₀ radix power sums reciprocal l₀ cells l =
+Inv-loop cells₀ radix power sums l₀ cells l =
     (l ≤ length cells₀) × (length cells ≡ length cells₀) × (cells ≡ filled (completed cells₀ sums radix power) cells₀ l)
 
 abbrev μ-loop : tie.MeasureT-loop
-μ-loop cells₀ radix power sums reciprocal l₀ cells l = length cells₀ - l
+μ-loop cells₀ radix power sums l₀ cells l = length cells₀ - l
 
 -- the places of the call and of the loop, each from one that follows
 abbrev begun : tie.At-loop Inv-loop μ-loop → tie.Start Inv-loop μ-loop
@@ -23,12 +22,6 @@ begun c = c .before .before
 
 abbrev looped : tie.After-wide Inv-loop μ-loop → tie.At-loop Inv-loop μ-loop
 looped c = c .before .before .before .before
-
-div-reciprocal : tie.Need-div-reciprocal Inv-loop μ-loop
-div-reciprocal c = omega arith
-
-add-reciprocal : tie.Need-add-reciprocal Inv-loop μ-loop
-add-reciprocal c = omega (arith, div-le-self 4294967296 (c .before .args .radix))
 
 loop-holds : tie.Need-loop-holds Inv-loop μ-loop
 loop-holds c = (omega arith, refl, refl)
@@ -40,7 +33,7 @@ array-read-missing : tie.Need-array-read-missing Inv-loop μ-loop
 array-read-missing c = omega arith
 
 missing-requires : tie.Need-missing-requires Inv-loop μ-loop
-missing-requires c κs = (begun (c .before) .pre .0 .0, refl)
+missing-requires c κs = begun (c .before) .pre .0 .0
 
 slice-read-wide : tie.Need-slice-read-wide Inv-loop μ-loop
 slice-read-wide c = omega arith
@@ -108,8 +101,6 @@ add-check-digits-spec =
     (tie.spec
     Inv-loop
     μ-loop
-    div-reciprocal
-    add-reciprocal
     loop-holds
     mul-missing
     array-read-missing

@@ -1,7 +1,7 @@
 -- `acam::encode::write_digits` meets its contract: the rule cells stay, and the check cells have their first s digits. Assumes nothing.
 use mathlib.Core.Path.{_≡_, refl, sym, _∙_, ap, ap₂}
 use mathlib.Core.List.{List}
-use Prim.Native.Nat.{ℕ, suc, _+_, _-_, _*_, _/_, _%_, _^_, _≤_, _<_}
+use Prim.Native.Nat.{ℕ, suc, _+_, _-_, _*_, _/_, _^_, _≤_, _<_}
 use native.Mathlib.Nat.{pow-zero, le-refl}
 use native.Mathlib.Numerals.{add-one}
 use native.Mathlib.Omega.{arith}
@@ -18,7 +18,7 @@ use Rattle.parity.proofs.Redundancy.{redundancyClaim}
 use Rattle.parity.proofs.MatrixFacts.{rules-sized}
 use Rattle.acam.proofs.Sizes.{columns-high}
 use Rattle.acam.proofs.Tail.{tail-is, tail-put}
-use Rattle.acam.proofs.DigitLoop.{power-high, power-next, power-fits, power-divides, sum-at}
+use Rattle.acam.proofs.DigitLoop.{power-high, power-next, power-fits, sum-at}
 use Rattle.acam.specs.Digits.{missing}
 use Rattle.acam.proofs.DigitCells.{cellAt, no-digits, cell-below, next-digit, all-digits}
 use Rattle.acam.proofs.encode.write_digits.Statement.{statement}
@@ -137,9 +137,12 @@ floor-sums-requires c κs =
     let start = begun (c .before .before .before) in
     let loop = c .before .before .loop in
     let k = start .args .shape .width in
-    let sized : length (start .args .rules .now) ≡ k = ap length (start .pre .2) ∙ rules-sized (start .args .shape) (start .pre .0) in (
-      power-divides (start .args .shape) (start .pre .0) (loop .s) (loop .power) (loop .inv .1) (omega arith),
-      omega (arith, length-take k (loop .row), columns-high (start .args .shape) (start .pre .0)),
+    let sized : length (start .args .rules .now) ≡ k = ap length (start .pre .2) ∙ rules-sized (start .args .shape) (start .pre .0) in
+    omega (
+      arith,
+      power-fits (start .args .shape) (start .pre .0) (loop .s) (loop .power) (loop .inv .1) (omega arith),
+      length-take k (loop .row),
+      columns-high (start .args .shape) (start .pre .0),
     )
 
 turn :

@@ -1,18 +1,16 @@
 -- `acam::matrix::matrix_of` meets its contract: the rule columns in front, the check columns behind them, and 0 in what is left.
 -- Assumes nothing.
-use mathlib.Core.Path.{_≡_, sym, _∙_, ap, ap₂}
+use mathlib.Core.Path.{_≡_, sym, _∙_, ap}
 use mathlib.Core.List.{List, _++_, append-assoc}
-use Prim.Native.Nat.{ℕ, zero, suc, _+_, _-_, _≤_}
+use Prim.Native.Nat.{ℕ, zero, suc, _+_, _-_}
 use native.Mathlib.Nat.{sub-zero, zero-sub, suc-sub-suc, add-sub-cancel-left}
 use native.Mathlib.Omega.{arith}
 use lib.ListN.{length, take, drop, replicate, length-append, length-take, length-drop}
-use lib.Seq.{length-take-le, take-at, drop-at, drop-drop}
+use lib.Seq.{take-at, drop-at, drop-drop}
 use borrow.Author.Needs.{needs}
 use borrow.Rule.Slice.PartMut.{putMid}
 use Rattle.parity.specs.Shape.{checks, columns}
 use Rattle.parity.specs.Matrix.{ruleColumns, checkColumns, matrix}
-use Rattle.parity.specs.Questions.{Taken}
-use Rattle.parity.specs.declared.Shape.{Shape}
 use Rattle.parity.proofs.Redundancy.{redundancyClaim}
 use Rattle.parity.proofs.MatrixFacts.{rules-sized}
 use Rattle.acam.specs.Matrices.{matrixArray}

@@ -4,7 +4,6 @@ use mathlib.Core.Path.{_≡_, refl, sym, _∙_, ap}
 use mathlib.Core.Bool.{Bool, true, false, not-eq-not, and-eq-true-iff}
 use mathlib.Core.List.{List}
 use Prim.Native.Nat.{ℕ, _-_, _%_, _≤_}
-use native.Mathlib.Nat.{div-le-self}
 use native.Mathlib.Numerals.{add-one}
 use native.Mathlib.Omega.{arith}
 use lib.Dec.{eqb}
@@ -20,20 +19,14 @@ abbrev balanced : List ℕ → ℕ → ℕ → Bool
 balanced sums radix l = eqb (getD sums l 0 % radix) 0
 
 abbrev Inv-loop : tie.InvT-loop
-Inv-loop checks radix sums reciprocal l₀ l = (l ≤ checks) × (everyTo l (balanced sums radix) ≡ true)
+Inv-loop checks radix sums l₀ l = (l ≤ checks) × (everyTo l (balanced sums radix) ≡ true)
 
 abbrev μ-loop : tie.MeasureT-loop
-μ-loop checks radix sums reciprocal l₀ l = checks - l
+μ-loop checks radix sums l₀ l = checks - l
 
 -- the loop's place, from that where a sum's missing digit is known
 abbrev looped : tie.After-missing Inv-loop μ-loop → tie.At-loop Inv-loop μ-loop
 looped c = c .before .before
-
-div-reciprocal : tie.Need-div-reciprocal Inv-loop μ-loop
-div-reciprocal c = omega arith
-
-add-reciprocal : tie.Need-add-reciprocal Inv-loop μ-loop
-add-reciprocal c = omega (arith, div-le-self 4294967296 (c .args .radix))
 
 loop-holds : tie.Need-loop-holds Inv-loop μ-loop
 loop-holds c = (omega arith, refl)
@@ -45,7 +38,7 @@ array-read-missing : tie.Need-array-read-missing Inv-loop μ-loop
 array-read-missing c = omega arith
 
 missing-requires : tie.Need-missing-requires Inv-loop μ-loop
-missing-requires c κs = (c .before .before .pre .1, refl)
+missing-requires c κs = c .before .before .pre .1
 
 returns : tie.Need-returns Inv-loop μ-loop
 returns c =
@@ -85,8 +78,6 @@ all-balanced-spec =
     (tie.spec
     Inv-loop
     μ-loop
-    div-reciprocal
-    add-reciprocal
     loop-holds
     mul-missing
     array-read-missing

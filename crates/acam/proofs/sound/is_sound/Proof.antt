@@ -24,7 +24,7 @@ use Rattle.parity.proofs.MatrixFacts.{matrixClaim}
 use Rattle.parity.proofs.CodewordTest.{codeword-test, codeword-passes}
 use Rattle.shape.proofs.Refusals.{levels-tested}
 use Rattle.acam.specs.Matrices.{matrixArray}
-use Rattle.acam.proofs.DigitLoop.{power-next, power-fits, power-divides, sum-at}
+use Rattle.acam.proofs.DigitLoop.{power-next, power-fits, sum-at}
 use Rattle.acam.proofs.Sizes.{columns-high}
 use Rattle.acam.proofs.MatrixArray.{array-sized, array-matrix}
 use Rattle.acam.proofs.sound.is_sound.Statement.{statement}
@@ -86,9 +86,11 @@ floor-sums-requires : tie.Need-floor-sums-requires Inv-loop μ-loop
 floor-sums-requires c κs =
     let start = begun (c .before .before) in
     let loop = c .before .before .loop in
-    let sized : length (start .args .matrix .now) ≡ 255 = ap length (start .pre .1 .1) ∙ array-sized (start .args .shape) (start .pre .0 .0) in (
-      power-divides (start .args .shape) (start .pre .0 .0) (loop .s) (loop .power) (loop .inv .1) (omega arith),
-      omega (arith, columns-high (start .args .shape) (start .pre .0 .0)),
+    let sized : length (start .args .matrix .now) ≡ 255 = ap length (start .pre .1 .1) ∙ array-sized (start .args .shape) (start .pre .0 .0) in
+    omega (
+      arith,
+      power-fits (start .args .shape) (start .pre .0 .0) (loop .s) (loop .power) (loop .inv .1) (omega arith),
+      columns-high (start .args .shape) (start .pre .0 .0),
     )
 
 all-balanced-requires : tie.Need-all-balanced-requires Inv-loop μ-loop

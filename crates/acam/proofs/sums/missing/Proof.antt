@@ -16,11 +16,16 @@ module _ (c : tie.Start) where
   ρ = c .args .radix
 
   -- the product with the reciprocal is a division by ρ
-  divided : (n + ρ - 1) * c .args .reciprocal / 4294967296 ≡ (n + ρ - 1) / ρ
+  divided : (n + ρ - 1) * (4294967296 / ρ + 1) / 4294967296 ≡ (n + ρ - 1) / ρ
   divided =
-      ap (λ x. (n + ρ - 1) * x / 4294967296) (c .pre .1)
-      ∙ by-product 4294967296 (n + ρ - 1) ρ
+      by-product 4294967296 (n + ρ - 1) ρ
       (omega (arith, mul-le-mul {n₁ = n + ρ - 1} {m₁ = ρ} {n₂ = 65790} {m₂ = 256} (omega arith) (omega arith))) (omega arith)
+
+div-reciprocal : tie.Need-div-reciprocal
+div-reciprocal c = omega arith
+
+add-reciprocal : tie.Need-add-reciprocal
+add-reciprocal c = omega (arith, div-le-self 4294967296 (ρ c))
 
 add-result : tie.Need-add-result
 add-result c = omega arith
@@ -32,7 +37,7 @@ mul-result : tie.Need-mul-result
 mul-result c =
     omega (
       arith,
-      mul-le-mul {n₁ = n c + ρ c - 1} {m₁ = c .args .reciprocal} {n₂ = 65790} {m₂ = 4294967297} (omega arith)
+      mul-le-mul {n₁ = n c + ρ c - 1} {m₁ = 4294967296 / ρ c + 1} {n₂ = 65790} {m₂ = 4294967297} (omega arith)
           (omega (arith, div-le-self 4294967296 (ρ c))),
     )
 
@@ -48,4 +53,12 @@ returns c = ap (λ x. x * ρ c - n c) (divided c) ∙ to-multiple (ρ c) (n c) (
 pub missing-spec : {M : Type 1} → statement M
 missing-spec =
     tie.close
-    (tie.spec add-result sub-result mul-result mul-result-2 sub-result-2 returns)
+    (tie.spec
+    div-reciprocal
+    add-reciprocal
+    add-result
+    sub-result
+    mul-result
+    mul-result-2
+    sub-result-2
+    returns)
