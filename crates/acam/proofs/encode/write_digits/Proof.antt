@@ -85,6 +85,10 @@ looped c = c .before .before .before
 abbrev summed : tie.After-slice-known3 Inv-loop μ-loop → tie.After-floor-sums Inv-loop μ-loop
 summed c = c .before .before .before .before
 
+-- each rule cell has its column
+a-column-each : (c : tie.Start Inv-loop μ-loop) → length (c .args .rules .now) ≡ c .args .shape .width
+a-column-each c = ap length (c .pre .2) ∙ rules-sized (c .args .shape) (c .pre .0)
+
 -- the row where the loop begins
 abbrev first : tie.After-slice-known2 Inv-loop μ-loop → List ℕ
 first c =
@@ -137,11 +141,11 @@ floor-sums-requires c κs =
     let start = begun (c .before .before .before) in
     let loop = c .before .before .loop in
     let k = start .args .shape .width in
-    let sized : length (start .args .rules .now) ≡ k = ap length (start .pre .2) ∙ rules-sized (start .args .shape) (start .pre .0) in
     omega (
       arith,
       power-fits (start .args .shape) (start .pre .0) (loop .s) (loop .power) (loop .inv .1) (omega arith),
       length-take k (loop .row),
+      a-column-each start,
       columns-high (start .args .shape) (start .pre .0),
     )
 
@@ -234,7 +238,7 @@ returns c =
     let row = start .args .row .now in
     let rule : take k (first filled) ≡ take k row
     = take-put k (length row - k) row (filled .before .before .fill .last .0) (omega arith) in
-    let cs = take-all k (start .args .rules .now) (omega (arith, ap length (start .pre .2), rules-sized (start .args .shape) (start .pre .0))) ∙ start .pre .2 in
+    let cs = take-all k (start .args .rules .now) (omega (arith, a-column-each start)) ∙ start .pre .2 in
     let r : length (first filled) - k ≡ checks (start .args .shape) = omega arith in
     let all : loop .s ≡ start .args .shape .digits = omega arith in
     all-digits (start .args .shape) (start .pre .0) (take k row) (loop .row) (length-take-le k row (omega arith)) (loop .inv .3 ∙ rule)

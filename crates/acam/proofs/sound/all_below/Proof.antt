@@ -40,7 +40,8 @@ returns-2 : tie.Need-returns-2
 returns-2 c =
     let test = c .before .before in
     let args = test .before .before .args in
-    ap (λ n. ltb n (args .bound)) (c .wide .ensures) ∙ some (args .bound) (c .before .largest .result) (args .bytes .now) (test .if1 .left) (c .before .largest .ensures)
+    let most = c .before .largest in
+    ap (λ n. ltb n (args .bound)) (c .wide .ensures) ∙ some (args .bound) (most .result) (args .bytes .now) (test .if1 .left) (most .ensures)
 
 pub all-below-spec : {M : Type 1} → statement M
 all-below-spec = tie.close (tie.spec returns largest-requires wide-requires returns-2)

@@ -15,8 +15,8 @@ use Rattle.shape.proofs.byte.largest.Statement.{statement}
 use Rattle.shape.proofs.byte.largest.Tie as tie
 
 -- the largest so far, and the bytes from place i on, are below a bound
-abbrev Below : ℕ → ℕ → List ℕ → ℕ → Bool
-Below bound most bytes i = ltb most bound && every (λ v. ltb v bound) (drop i bytes)
+abbrev below : ℕ → ℕ → List ℕ → ℕ → Bool
+below bound most bytes i = ltb most bound && every (λ v. ltb v bound) (drop i bytes)
 
 -- of two numbers the larger decides
 larger : (bound a b : ℕ) → a ≤ b → ltb a bound && ltb b bound ≡ ltb b bound
@@ -29,17 +29,17 @@ larger bound a b h = go (ltb b bound) refl
 -- one byte more
 next :
     (bytes : List ℕ) (i most : ℕ) → i < length bytes → (bound more : ℕ)
-    → ltb most bound && ltb (getD bytes i 0) bound ≡ ltb more bound → Below bound most bytes i ≡ Below bound more bytes (i + 1)
+    → ltb most bound && ltb (getD bytes i 0) bound ≡ ltb more bound → below bound most bytes i ≡ below bound more bytes (i + 1)
 next bytes i most h bound more e =
     let rest : Bool = every (λ v. ltb v bound) (drop (suc i) bytes) in
     ap (λ l. ltb most bound && every (λ v. ltb v bound) l) (drop-cons bytes i 0 h)
     ∙ sym (and-assoc (ltb most bound) (ltb (getD bytes i 0) bound) rest)
     ∙ ap (λ t. t && rest) e
-    ∙ ap (Below bound more bytes) (sym (add-one i))
+    ∙ ap (below bound more bytes) (sym (add-one i))
 
 abbrev Inv-loop : tie.InvT-loop
 Inv-loop bytes most₀ i₀ most i =
-    (i ≤ length bytes) × ((bound : ℕ) → 0 < bound → every (λ v. ltb v bound) bytes ≡ Below bound most bytes i)
+    (i ≤ length bytes) × ((bound : ℕ) → 0 < bound → every (λ v. ltb v bound) bytes ≡ below bound most bytes i)
 
 abbrev μ-loop : tie.MeasureT-loop
 μ-loop bytes most₀ i₀ most i = length bytes - i
