@@ -40,7 +40,7 @@ module _ (s : Shape) (t : Taken s) (r : ℕ) (counted : r ≡ checks s) where
   unfolding columns
   fits = omega (arith, columns-high s t)
 
-  -- the part of the array that is lent for the rule columns, what it is lent by, and what fills it
+  -- the part of the array that is lent for the rule columns: its length, what fills it, and what the filling asks for
   pub front : length (take (s .width) zeros) ≡ s .width
   front = length-take-le (s .width) zeros (omega (arith, fits))
 
