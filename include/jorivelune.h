@@ -29,8 +29,9 @@ struct jorivelune_shape {
     size_t rows;
 };
 
-// The cycle record: seven words. The phase is 0 idle, 1 open or 2 complete; any other is read as idle. The last is the
-// number of low digits that the cycle skips. A record of zeros is that of a fresh array.
+// The cycle record: seven words. The phase is 0 idle, 1 open or 2 complete; any other is read as idle. Check, digit, column
+// and factor are the place of the next lookup; all four are 0 where an opening is next, and where no lookup is to come. The
+// last is the number of low digits that the cycle skips. A record of zeros is that of a fresh array.
 enum {
     JORIVELUNE_PHASE,
     JORIVELUNE_CHECK,
@@ -44,11 +45,15 @@ enum {
 
 // ---- calls that have the record
 
+// Lines are m bytes, one for each row's match line: 0 is sound, any other dead. A dead row matches nothing. Clear writes
+// 0, jorivelune_line sets a byte, and no other call changes them.
+
 // Totals are (m + 63) / 64 bytes: for each block of 64 rows, the last of which may be short, the number of its
 // flagged rows. Clear and start write 0, and each step that looks for rows to flag counts them anew.
 
 uint8_t jorivelune_clear(size_t record[JORIVELUNE_WORDS], struct jorivelune_shape shape,
                          uint8_t *cells, size_t cells_length,
+                         uint8_t *lines, size_t lines_length,
                          uint8_t *counters, size_t counters_length,
                          uint8_t *flags, size_t flags_length,
                          uint8_t *totals, size_t totals_length);
@@ -64,8 +69,10 @@ uint8_t jorivelune_start(size_t record[JORIVELUNE_WORDS], struct jorivelune_shap
                          uint8_t *flags, size_t flags_length,
                          uint8_t *totals, size_t totals_length);
 
+// A cycle's first step is its opening: it feeds 0 to every column and flags the rows that do not match; it counts nothing.
 uint8_t jorivelune_step(size_t record[JORIVELUNE_WORDS], struct jorivelune_shape shape,
                         const uint8_t *cells, size_t cells_length,
+                        const uint8_t *lines, size_t lines_length,
                         uint8_t *counters, size_t counters_length,
                         uint8_t *flags, size_t flags_length,
                         uint8_t *totals, size_t totals_length,
@@ -74,6 +81,7 @@ uint8_t jorivelune_step(size_t record[JORIVELUNE_WORDS], struct jorivelune_shape
 // A start and all the steps of a cycle.
 uint8_t jorivelune_run(size_t record[JORIVELUNE_WORDS], struct jorivelune_shape shape, size_t skip,
                        const uint8_t *cells, size_t cells_length,
+                       const uint8_t *lines, size_t lines_length,
                        uint8_t *counters, size_t counters_length,
                        uint8_t *flags, size_t flags_length,
                        uint8_t *totals, size_t totals_length,
@@ -89,7 +97,11 @@ uint8_t jorivelune_panel(struct jorivelune_shape shape,
                          const uint8_t *totals, size_t totals_length,
                          size_t *total, size_t *first, size_t *read);
 
-// ---- calls on the cells alone
+// ---- calls without the record
+
+// One row's line byte becomes 0 or 1, and nothing else. Any byte may be given: question 16 refuses one above 1.
+uint8_t jorivelune_line(struct jorivelune_shape shape, uint8_t *lines, size_t lines_length,
+                        size_t row, uint8_t byte);
 
 uint8_t jorivelune_drift(struct jorivelune_shape shape, uint8_t *cells, size_t cells_length,
                          size_t row, size_t column, uint8_t level);
@@ -102,11 +114,13 @@ uint8_t jorivelune_encode(struct jorivelune_shape shape, uint8_t *row, size_t ro
 
 // The number of matches goes to count, 0 where the call is refused.
 uint8_t jorivelune_lookup(struct jorivelune_shape shape, const uint8_t *cells, size_t cells_length,
+                          const uint8_t *lines, size_t lines_length,
                           const uint8_t *inputs, size_t inputs_length,
                           uint8_t *matches, size_t matches_length, size_t *count);
 
 // The row goes to found: m where none matches, 0 where the call is refused.
 uint8_t jorivelune_first_match(struct jorivelune_shape shape, const uint8_t *cells, size_t cells_length,
+                               const uint8_t *lines, size_t lines_length,
                                const uint8_t *inputs, size_t inputs_length, size_t *found);
 
 // Whether the row is sound goes to holds, false where the call is refused.

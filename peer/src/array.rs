@@ -1,7 +1,7 @@
 //! The calls on an array outside its detection cycle.
 
 use crate::code::{encode, is_codeword};
-use crate::comparator::{answers, match_byte};
+use crate::comparator::{answers, is_sound, match_byte};
 use crate::cycle::Cycle;
 use crate::shape::{Layout, Refusal, Shape};
 use crate::state::State;
@@ -20,7 +20,7 @@ pub fn clear(shape: Shape, state: State<&mut [u8]>, cycle: Cycle) -> (Cycle, Res
 }
 
 /// Programs a row with k levels and their check cells. The record becomes
-/// idle.
+/// idle. The row's line stays as it is.
 pub fn program(
     shape: Shape,
     cells: &mut [u8],
@@ -65,32 +65,55 @@ pub fn drift(
     Ok(())
 }
 
+/// Sets the line byte of a row: 0 for a sound line, 1 for a dead one. Nothing
+/// else changes.
+pub fn line(shape: Shape, lines: &mut [u8], row: usize, byte: u8) -> Result<(), Refusal> {
+    let layout = shape.layout()?;
+    layout.ask_length(lines, layout.rows())?;
+    layout.ask_row(row)?;
+    layout.ask_line(byte)?;
+    lines[row] = byte;
+    Ok(())
+}
+
 /// A task lookup of k inputs, the check columns fed 0: writes one match byte
 /// per row and gives the number of matches.
 pub fn lookup(
     shape: Shape,
     cells: &[u8],
+    lines: &[u8],
     inputs: &[u8],
     matches: &mut [u8],
 ) -> Result<usize, Refusal> {
     let layout = ask_cells(shape, cells)?;
+    layout.ask_length(lines, layout.rows())?;
     layout.ask_length(inputs, layout.width())?;
     layout.ask_length(matches, layout.rows())?;
     layout.ask_levels(inputs)?;
     let mut found = 0;
-    for (row, line) in rows(&layout, cells).zip(matches) {
-        *line = match_byte(row, inputs);
-        found += usize::from(*line);
+    for ((row, &line), matched) in rows(&layout, cells).zip(lines).zip(matches) {
+        *matched = match_byte(line, row, inputs);
+        found += usize::from(*matched);
     }
     Ok(found)
 }
 
 /// The number of the first row that matches k inputs, fed as in a task lookup.
-pub fn first_match(shape: Shape, cells: &[u8], inputs: &[u8]) -> Result<Option<usize>, Refusal> {
+/// A row with a dead line is passed over, none of its cells looked at.
+pub fn first_match(
+    shape: Shape,
+    cells: &[u8],
+    lines: &[u8],
+    inputs: &[u8],
+) -> Result<Option<usize>, Refusal> {
     let layout = ask_cells(shape, cells)?;
+    layout.ask_length(lines, layout.rows())?;
     layout.ask_length(inputs, layout.width())?;
     layout.ask_levels(inputs)?;
-    'rows: for (number, row) in rows(&layout, cells).enumerate() {
+    'rows: for (number, (row, &line)) in rows(&layout, cells).zip(lines).enumerate() {
+        if !is_sound(line) {
+            continue 'rows;
+        }
         for (&cell, &input) in row.iter().zip(inputs) {
             if !answers(cell, input) {
                 continue 'rows;
@@ -101,14 +124,14 @@ pub fn first_match(shape: Shape, cells: &[u8], inputs: &[u8]) -> Result<Option<u
     Ok(None)
 }
 
-/// Whether a row is sound.
+/// Whether a row is sound, whatever its line.
 pub fn sound(shape: Shape, cells: &[u8], row: usize) -> Result<bool, Refusal> {
     let layout = ask_cells(shape, cells)?;
     layout.ask_row(row)?;
     Ok(is_codeword(&layout, row_of(&layout, cells, row)))
 }
 
-/// Copies the k rule cells of a row out.
+/// Copies the k rule cells of a row out, whatever its line.
 pub fn read(shape: Shape, cells: &[u8], row: usize, out: &mut [u8]) -> Result<(), Refusal> {
     let layout = ask_cells(shape, cells)?;
     layout.ask_length(out, layout.width())?;

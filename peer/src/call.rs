@@ -67,6 +67,13 @@ calls! {
         /// The level it takes.
         level: u8,
     },
+    /// Set the line byte of a row.
+    Line {
+        /// The row.
+        row: usize,
+        /// The byte.
+        byte: u8,
+    },
     /// A task lookup.
     Lookup {
         /// The inputs.
@@ -123,6 +130,7 @@ impl Name {
         match self {
             Name::Clear | Name::Program | Name::Start | Name::Step | Name::Run => true,
             Name::Drift
+            | Name::Line
             | Name::Lookup
             | Name::Panel
             | Name::FirstMatch
@@ -140,6 +148,7 @@ impl<B> Call<B> {
             Call::Clear => Call::Clear,
             Call::Program { row, levels } => Call::Program { row, levels },
             Call::Drift { row, column, level } => Call::Drift { row, column, level },
+            Call::Line { row, byte } => Call::Line { row, byte },
             Call::Lookup { inputs, matches } => Call::Lookup {
                 inputs,
                 matches: change(matches),
@@ -216,7 +225,7 @@ pub fn make<S: Bytes, B: Bytes>(
         *cycle = next;
         Answer::done(answer)
     };
-    let cells = &mut state.cells;
+    let (cells, lines) = (&mut state.cells, &mut state.lines);
     match call {
         Call::Clear => keep(array::clear(shape, state.lend(), now)),
         Call::Program { row, levels } => keep(array::program(shape, cells, *row, levels, now)),
@@ -226,12 +235,14 @@ pub fn make<S: Bytes, B: Bytes>(
         Call::Drift { row, column, level } => {
             Answer::done(array::drift(shape, cells, *row, *column, *level))
         }
+        Call::Line { row, byte } => Answer::done(array::line(shape, lines, *row, *byte)),
         Call::Lookup { inputs, matches } => {
-            Answer::of(array::lookup(shape, cells, inputs, matches), Answer::Count)
+            let count = array::lookup(shape, cells, lines, inputs, matches);
+            Answer::of(count, Answer::Count)
         }
         Call::Panel => Answer::of(panel(shape, &state.flags, &state.totals), Answer::Panel),
         Call::FirstMatch { inputs } => {
-            Answer::of(array::first_match(shape, cells, inputs), Answer::Row)
+            Answer::of(array::first_match(shape, cells, lines, inputs), Answer::Row)
         }
         Call::Sound { row } => Answer::of(array::sound(shape, cells, *row), Answer::Sound),
         Call::Read { row, out } => Answer::done(array::read(shape, cells, *row, out)),

@@ -1,12 +1,17 @@
 //! The detection cycle: its record, start, step, and one whole cycle.
 //!
-//! Schedule: checks ℓ upwards; within it digits s from the highest down to z;
-//! within it the columns j of J(ℓ) upwards; within it the factors a from 1
+//! A cycle opens with the all-zero vector. Every cell answers 1 to it, so the
+//! rows that do not match are those with a dead line: they are flagged, and
+//! nothing is counted. The vectors behind it cannot show such a row, since its
+//! counter stays 0.
+//!
+//! Schedule of these: checks ℓ upwards; within it digits s from the highest down
+//! to z; within it the columns j of J(ℓ) upwards; within it the factors a from 1
 //! below q / ρ^s that ρ does not divide, upwards. The vector is a × ρ^s in
 //! column j and 0 elsewhere. The z low digits are skipped: a cycle with z = 0
 //! looks at all of them, a coarse one sees only what differs above.
 
-use crate::comparator::answers;
+use crate::comparator::match_byte;
 use crate::matrix::ones_in_check;
 use crate::panel::count_flags;
 use crate::shape::{Layout, Refusal, Shape};
@@ -17,14 +22,14 @@ use crate::state::State;
 pub enum Phase {
     /// No cycle since the array was cleared or a row programmed.
     Idle,
-    /// A vector is still to come.
+    /// The opening or a vector is still to come.
     Open,
-    /// All vectors have been looked up.
+    /// All of them have been looked up.
     Complete,
 }
 
-/// The cycle record. While the cycle is open, check, digit, column and factor
-/// are those of the next test vector; they are 0 otherwise.
+/// The cycle record. Check, digit, column and factor are those of the next test
+/// vector; they are 0 where the opening is next, and where no lookup is to come.
 #[derive(Clone, Copy, Debug, PartialEq, Eq, Hash)]
 pub struct Cycle {
     /// Where the cycle is.
@@ -37,7 +42,7 @@ pub struct Cycle {
     pub column: usize,
     /// a, the factor.
     pub factor: usize,
-    /// The number of steps made.
+    /// The number of steps made, the opening among them.
     pub count: usize,
     /// z, the number of low digits that the cycle skips; 0 while it is idle.
     pub skip: usize,
@@ -55,16 +60,13 @@ impl Cycle {
         skip: 0,
     };
 
-    /// The record that a start leaves, with so many low digits to skip.
-    pub fn open(layout: &Layout, skip: usize) -> Cycle {
+    /// The record that a start leaves, with so many low digits to skip: the
+    /// opening is next.
+    pub const fn open(skip: usize) -> Cycle {
         Cycle {
             phase: Phase::Open,
-            check: 0,
-            digit: layout.digits() - 1,
-            column: next_in_support(layout, 0, 0),
-            factor: 1,
-            count: 0,
             skip,
+            ..Cycle::IDLE
         }
     }
 
@@ -79,9 +81,17 @@ impl Cycle {
     }
 
     /// Question 9: whether a start and `count` accepted steps leave this
-    /// record, with a vector still to come.
+    /// record, with the opening or a vector still to come.
     fn awaits_step(&self, layout: &Layout) -> bool {
-        self.phase == Phase::Open && self.rank(layout) == Some(self.count)
+        match self.count.checked_sub(1) {
+            None => *self == Cycle::open(self.skip) && self.skip < layout.digits(),
+            Some(vectors) => self.phase == Phase::Open && self.rank(layout) == Some(vectors),
+        }
+    }
+
+    /// Whether the opening is next, in a record that awaits a step.
+    fn is_opening(&self) -> bool {
+        self.count == 0
     }
 
     /// How many vectors come before this record's one, or none where the
@@ -111,7 +121,8 @@ impl Cycle {
         layout.levels_above(self.digit)
     }
 
-    /// The only nonzero input of the vector, at most q − 1.
+    /// The input of the record's column, at most q − 1. All others are 0, and in
+    /// an opening, whose factor is 0, this one too.
     fn input(&self, layout: &Layout) -> u8 {
         (self.factor * layout.radix().pow(self.digit as u32)) as u8
     }
@@ -131,6 +142,10 @@ impl Cycle {
     fn next(self, layout: &Layout) -> Cycle {
         let mut next = self;
         next.count += 1;
+        let highest = layout.digits() - 1;
+        if self.is_opening() {
+            return next.at_digit(layout, 0, highest);
+        }
         if self.factor + 1 < self.bound(layout) {
             next.factor = next_factor(self.factor, layout.radix());
             return next;
@@ -141,15 +156,23 @@ impl Cycle {
             return next;
         }
         if self.digit > self.skip {
-            next.digit = self.digit - 1;
+            next.at_digit(layout, self.check, self.digit - 1)
         } else if self.check + 1 < layout.checks() {
-            next.check = self.check + 1;
-            next.digit = layout.digits() - 1;
+            next.at_digit(layout, self.check + 1, highest)
         } else {
-            return Cycle::complete(next.count, next.skip);
+            Cycle::complete(next.count, next.skip)
         }
-        next.column = next_in_support(layout, next.check, 0);
-        next
+    }
+
+    /// The record at the first vector of a digit of a check.
+    fn at_digit(self, layout: &Layout, check: usize, digit: usize) -> Cycle {
+        Cycle {
+            check,
+            digit,
+            column: next_in_support(layout, check, 0),
+            factor: 1,
+            ..self
+        }
     }
 }
 
@@ -184,8 +207,8 @@ fn place_in_support(layout: &Layout, check: usize, column: usize) -> Option<usiz
 }
 
 /// Starts a cycle that skips so many low digits: counters, flags and totals 0,
-/// record open with count 0. The cells are not its matter, and question 6 is
-/// not asked of them.
+/// record open with count 0. Cells and lines are not its matter, and question 6
+/// is not asked of them.
 pub fn start(
     shape: Shape,
     skip: usize,
@@ -194,28 +217,31 @@ pub fn start(
 ) -> (Cycle, Result<(), Refusal>) {
     match ask_start(shape, skip, &state) {
         Err(refusal) => (cycle, Err(refusal)),
-        Ok(layout) => {
+        Ok(()) => {
             state.counters.fill(0);
             state.flags.fill(0);
             state.totals.fill(0);
-            (Cycle::open(&layout, skip), Ok(()))
+            (Cycle::open(skip), Ok(()))
         }
     }
 }
 
-fn ask_start(shape: Shape, skip: usize, state: &State<&mut [u8]>) -> Result<Layout, Refusal> {
+fn ask_start(shape: Shape, skip: usize, state: &State<&mut [u8]>) -> Result<(), Refusal> {
     let layout = shape.layout()?;
     layout.ask_skip(skip)?;
     layout.ask_length(state.counters, layout.rows())?;
     layout.ask_length(state.flags, layout.rows())?;
-    layout.ask_length(state.totals, layout.blocks())?;
-    Ok(layout)
+    layout.ask_length(state.totals, layout.blocks())
 }
 
-/// Makes the next lookup of the schedule: writes the match bytes, adds each to
-/// its row's counter mod the radix, and moves the record on. At the end of a
-/// digit the rows whose counter is not 0 are flagged, and the flagged rows of
-/// each block counted; at the end of a check the counters return to 0.
+/// Makes the next lookup of the cycle, writes the match bytes, and moves the
+/// record on.
+///
+/// The opening flags the rows that do not match and leaves the counters. Any
+/// other lookup adds each match byte to its row's counter mod the radix; at the
+/// end of a digit the rows whose counter is not 0 are flagged, and at the end of
+/// a check the counters return to 0. Where rows are flagged, the flagged ones of
+/// each block are counted.
 pub fn step(
     shape: Shape,
     state: State<&mut [u8]>,
@@ -226,20 +252,12 @@ pub fn step(
         Err(refusal) => return (cycle, Err(refusal)),
         Ok(layout) => layout,
     };
-    let State {
-        cells,
-        counters,
-        flags,
-        totals,
-    } = state;
-    look_up(&layout, &cycle, cells, matches);
-    add_matches(&layout, counters, matches);
-    if cycle.ends_digit(&layout) {
-        raise_flags(counters, flags);
-        count_flags(flags, totals);
-    }
-    if cycle.ends_check(&layout) {
-        counters.fill(0);
+    look_up(&layout, &cycle, state.cells, state.lines, matches);
+    if cycle.is_opening() {
+        let unmatched = matches.iter().map(|&matched| matched == 0);
+        raise_flags(unmatched, state.flags, state.totals);
+    } else {
+        count_vector(&layout, &cycle, state, matches);
     }
     (cycle.next(&layout), Ok(()))
 }
@@ -296,12 +314,25 @@ fn ask_run(
 }
 
 /// Feeds the record's vector. All columns but one are fed 0 and answer 1, so
-/// the match byte of a row is the answer of its cell in that one column.
-fn look_up(layout: &Layout, cycle: &Cycle, cells: &[u8], matches: &mut [u8]) {
+/// the match byte of a row is that of its line and its cell in that one column.
+fn look_up(layout: &Layout, cycle: &Cycle, cells: &[u8], lines: &[u8], matches: &mut [u8]) {
     let input = cycle.input(layout);
     let rows = cells.chunks_exact(layout.columns());
-    for (row, line) in rows.zip(matches) {
-        *line = u8::from(answers(row[cycle.column], input));
+    for ((row, &line), matched) in rows.zip(lines).zip(matches) {
+        *matched = match_byte(line, &[row[cycle.column]], &[input]);
+    }
+}
+
+/// What the match bytes of a vector bring.
+fn count_vector(layout: &Layout, cycle: &Cycle, state: State<&mut [u8]>, matches: &[u8]) {
+    let counters = state.counters;
+    add_matches(layout, counters, matches);
+    if cycle.ends_digit(layout) {
+        let unbalanced = counters.iter().map(|&counter| counter != 0);
+        raise_flags(unbalanced, state.flags, state.totals);
+    }
+    if cycle.ends_check(layout) {
+        counters.fill(0);
     }
 }
 
@@ -309,8 +340,8 @@ fn look_up(layout: &Layout, cycle: &Cycle, cells: &[u8], matches: &mut [u8]) {
 fn add_matches(layout: &Layout, counters: &mut [u8], matches: &[u8]) {
     let radix = layout.radix() as u8;
     bring_below(counters, radix);
-    for (counter, &line) in counters.iter_mut().zip(matches) {
-        let sum = *counter + line;
+    for (counter, &matched) in counters.iter_mut().zip(matches) {
+        let sum = *counter + matched;
         *counter = if sum == radix { 0 } else { sum };
     }
 }
@@ -326,11 +357,13 @@ fn bring_below(counters: &mut [u8], radix: u8) {
     }
 }
 
-/// Flags the rows whose counter is not 0.
-fn raise_flags(counters: &[u8], flags: &mut [u8]) {
-    for (flag, &counter) in flags.iter_mut().zip(counters) {
-        if counter != 0 {
+/// Flags each row for which there is a reason, and counts the flagged rows of
+/// each block.
+fn raise_flags(reasons: impl Iterator<Item = bool>, flags: &mut [u8], totals: &mut [u8]) {
+    for (flag, reason) in flags.iter_mut().zip(reasons) {
+        if reason {
             *flag = 1;
         }
     }
+    count_flags(flags, totals);
 }

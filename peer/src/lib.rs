@@ -1,9 +1,10 @@
 //! A threshold array with check columns, its lookups and its detection cycle.
 //!
 //! The array keeps its state in memory lent by the caller: cells (row after
-//! row), one counter and one flag byte per row, and one byte per block of 64
-//! rows, the total of its flagged ones; a cycle record stands beside it. Every
-//! call asks its questions first; a refused call changes nothing.
+//! row), one line byte, one counter and one flag byte per row, and one byte per
+//! block of 64 rows, the total of its flagged ones; a cycle record stands beside
+//! it. A row whose line byte is not 0 is dead and matches nothing. Every call
+//! asks its questions first; a refused call changes nothing.
 //!
 //! From the bottom up:
 //! - [`shape`]: the shape of an array, questions 1 to 5, the refusals;
@@ -35,7 +36,7 @@ pub mod shape;
 pub mod state;
 pub mod testing;
 
-pub use array::{clear, drift, first_match, lookup, program, read, sound};
+pub use array::{clear, drift, first_match, line, lookup, program, read, sound};
 pub use call::{make, Answer, Call, Name};
 pub use code::{encode, encode_row, is_codeword};
 pub use comparator::match_byte;

@@ -147,13 +147,23 @@ impl Layout {
             .sum()
     }
 
-    /// The number of vectors in a detection cycle that skips so many low digits.
+    /// The number of vectors in a detection cycle that skips so many low digits,
+    /// its opening left out.
     ///
     /// # Panics
     ///
     /// If there are not more digits than that.
     pub fn lookups(&self, skip: usize) -> usize {
         (self.levels_above(skip) - 1) * self.weight()
+    }
+
+    /// The number of steps of such a cycle: the opening, and one for each vector.
+    ///
+    /// # Panics
+    ///
+    /// If there are not more digits than that.
+    pub fn steps(&self, skip: usize) -> usize {
+        1 + self.lookups(skip)
     }
 }
 

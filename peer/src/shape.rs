@@ -39,6 +39,8 @@ pub enum Refusal {
     JobContents = 14,
     /// A cycle is to skip as many low digits as there are, or more.
     Skip = 15,
+    /// A line byte to be set is above 1.
+    Line = 16,
 }
 
 impl Refusal {
@@ -92,6 +94,8 @@ impl Shape {
     pub const MAX_ROWS: usize = 4096;
     /// The rows of a block; the last block of an array may have fewer.
     pub const BLOCK: usize = 64;
+    /// The largest line byte that a call sets.
+    pub const MAX_LINE: u8 = 1;
 
     /// The shape with ρ, b, τ, k and m, in this order.
     pub const fn new(
@@ -275,6 +279,15 @@ impl Layout {
             Ok(())
         } else {
             Err(Refusal::Level)
+        }
+    }
+
+    /// Question 16 for a line byte to be set.
+    pub(crate) fn ask_line(&self, byte: u8) -> Result<(), Refusal> {
+        if byte <= Shape::MAX_LINE {
+            Ok(())
+        } else {
+            Err(Refusal::Line)
         }
     }
 }

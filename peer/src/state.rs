@@ -5,7 +5,7 @@ use std::ops::DerefMut;
 use crate::shape::{Layout, Refusal, Shape};
 
 /// How many buffers a state has.
-const BUFFERS: usize = 4;
+const BUFFERS: usize = 5;
 
 /// A buffer of any kind whose bytes can be read and written.
 pub trait Bytes: DerefMut<Target = [u8]> {}
@@ -19,6 +19,8 @@ impl<B: DerefMut<Target = [u8]>> Bytes for B {}
 pub struct State<B> {
     /// The cells, row after row.
     pub cells: B,
+    /// One line byte per row: 0 for a sound match line, any other for a dead one.
+    pub lines: B,
     /// One counter per row.
     pub counters: B,
     /// One flag per row.
@@ -31,6 +33,7 @@ impl State<&'static str> {
     /// What the buffers are called.
     pub const NAMES: Self = State {
         cells: "cells",
+        lines: "lines",
         counters: "counters",
         flags: "flags",
         totals: "totals",
@@ -42,6 +45,7 @@ impl State<usize> {
     pub fn lengths(layout: &Layout) -> Self {
         State {
             cells: layout.cells(),
+            lines: layout.rows(),
             counters: layout.rows(),
             flags: layout.rows(),
             totals: layout.blocks(),
@@ -62,13 +66,20 @@ impl<B> State<B> {
 
     /// The buffers in order.
     pub fn into_array(self) -> [B; BUFFERS] {
-        [self.cells, self.counters, self.flags, self.totals]
+        [
+            self.cells,
+            self.lines,
+            self.counters,
+            self.flags,
+            self.totals,
+        ]
     }
 
     /// The buffers to be looked at.
     pub fn each(&self) -> State<&B> {
         State {
             cells: &self.cells,
+            lines: &self.lines,
             counters: &self.counters,
             flags: &self.flags,
             totals: &self.totals,
@@ -79,6 +90,7 @@ impl<B> State<B> {
     pub fn each_mut(&mut self) -> State<&mut B> {
         State {
             cells: &mut self.cells,
+            lines: &mut self.lines,
             counters: &mut self.counters,
             flags: &mut self.flags,
             totals: &mut self.totals,
@@ -89,6 +101,7 @@ impl<B> State<B> {
     pub fn map<C>(self, mut change: impl FnMut(B) -> C) -> State<C> {
         State {
             cells: change(self.cells),
+            lines: change(self.lines),
             counters: change(self.counters),
             flags: change(self.flags),
             totals: change(self.totals),

@@ -3,6 +3,7 @@
 
 use peer::testing::draw::{self, some_bytes, some_length, some_number, Draw};
 use peer::testing::lent::Own;
+use peer::testing::lines::{any_lines, Lines, FOREIGN};
 use peer::testing::naive::calls::make;
 use peer::testing::naive::panel::blocks;
 use peer::testing::naive::spec::{questions, Spec};
@@ -58,6 +59,7 @@ struct Given {
     row: usize,
     column: usize,
     level: u8,
+    line: u8,
     levels: Vec<u8>,
     skip: usize,
 }
@@ -81,6 +83,10 @@ impl Draw for Given {
         self.level
     }
 
+    fn line(&mut self) -> u8 {
+        self.line
+    }
+
     fn inputs(&mut self) -> Vec<u8> {
         self.levels.clone()
     }
@@ -102,6 +108,7 @@ fn some_state(random: &mut Random, spec: Option<&Spec>, sizes: &Sizes) -> State<
     };
     State {
         cells,
+        lines: some_lines(random, sizes.rows),
         counters: some_bytes(random, sizes.rows),
         flags: some_marks(random, sizes.rows),
         totals: some_marks(random, sizes.blocks),
@@ -130,9 +137,20 @@ fn given(random: &mut Random, sizes: &Sizes) -> Given {
         } else {
             random.level(sizes.levels)
         },
+        line: if random.one_in(5) {
+            random.byte()
+        } else {
+            random.level(2)
+        },
         levels: random.levels(bound, length),
         skip: some_number(random, sizes.digits),
     }
+}
+
+/// Mostly as many line bytes as there are rows, of every kind.
+fn some_lines(random: &mut Random, wanted: usize) -> Vec<u8> {
+    let length = some_length(random, wanted);
+    any_lines(random, length)
 }
 
 /// Mostly as many cells as there are, levels or any bytes.
@@ -177,18 +195,19 @@ fn some_rows(random: &mut Random, spec: &Spec) -> Vec<u8> {
     cells
 }
 
-/// A record of the schedule of any z, its last places often. Long schedules are
-/// not written out; their first record serves.
+/// A record of a cycle of any z, its opening and its last places often. Long
+/// schedules are not written out; the opening serves.
 fn some_record(random: &mut Random, spec: &Spec) -> Cycle {
     let skip = random.below(spec.shape.digits);
-    let lookups = spec.lookups(skip);
-    if lookups > 2000 {
-        return Cycle::open(&spec.shape.layout().unwrap(), skip);
+    let steps = spec.steps(skip);
+    if steps > 2000 {
+        return Cycle::open(skip);
     }
-    let count = match random.below(6) {
-        0 => lookups,
-        1 => lookups - 1,
-        _ => random.below(lookups),
+    let count = match random.below(7) {
+        0 => steps,
+        1 => steps - 1,
+        2 => 0,
+        _ => random.below(steps),
     };
     spec.schedule(skip).record(count)
 }
@@ -205,11 +224,13 @@ fn some_change(random: &mut Random, record: Cycle, sizes: &Sizes) -> Cycle {
     }
 }
 
-/// What the calls were answered, and what they did with skipped digits.
+/// What the calls were answered, what they did with skipped digits, and what
+/// lines they were lent.
 #[derive(Debug, Default)]
 struct Seen {
     tally: Tally,
     skips: Skips,
+    lines: Lines,
 }
 
 /// Makes a call by this build and by the definitions, and compares.
@@ -236,6 +257,7 @@ fn compare(random: &mut Random, shape: Shape, name: Name, seen: &mut Seen) {
     assert_eq!((&ours, &call), (&plain, &plain_call), "{name:?} {shape:?}");
     seen.tally.add(name, answer);
     seen.skips.add(name, answer, cycle, ours.cycle);
+    seen.lines.add(name, answer, cycle, &before.0.state.lines);
     if name == Name::Step {
         seen.skips.add_forged(answer, record, cycle);
     }
@@ -263,46 +285,70 @@ fn the_calls_do_what_the_definitions_say() {
     println!("{} calls: {seen:?}", seen.tally.calls());
     seen.tally.assert_complete();
     seen.skips.assert_each(8);
+    seen.lines.assert_each(8);
 }
 
 /// Whether a cycle on the shape looks at too many rows to be run here.
 fn is_long(shape: Shape) -> bool {
-    questions(shape).is_ok_and(|spec| spec.lookups(0) * shape.rows > 5_000)
+    questions(shape).is_ok_and(|spec| spec.steps(0) * shape.rows > 5_000)
 }
 
-/// The rule of a match line on all pairs of a cell and an input.
+/// The rule of a match line on all pairs of a cell and an input: in a row with a
+/// sound line, and in one with a dead line of any byte.
 #[test]
 fn a_cell_answers_when_the_input_is_at_most_the_cell() {
     for cell in 0..=255 {
         for input in 0..=255 {
             let wanted = u8::from(input <= cell);
-            assert_eq!(match_byte(&[cell], &[input]), wanted);
-            assert_eq!(match_byte(&[255, cell, 0], &[255, input, 0]), wanted);
-            assert_eq!(match_byte(&[cell, 0, 0], &[input]), wanted);
+            assert_eq!(match_byte(0, &[cell], &[input]), wanted);
+            assert_eq!(match_byte(0, &[255, cell, 0], &[255, input, 0]), wanted);
+            assert_eq!(match_byte(0, &[cell, 0, 0], &[input]), wanted);
+            for line in FOREIGN.into_iter().chain([1]) {
+                assert_eq!(match_byte(line, &[cell], &[input]), 0);
+            }
         }
+    }
+    for line in 0..=255 {
+        let wanted = u8::from(line == 0);
+        assert_eq!(match_byte(line, &[0, 255], &[0, 255]), wanted);
+        assert_eq!(match_byte(line, &[7], &[]), wanted);
     }
 }
 
-/// First match and task lookup agree, and both ways out are seen.
+/// First match and task lookup agree, and both ways out are seen; so are dead
+/// lines of rows whose cells match, before the first match and without one.
 #[test]
 fn first_match_is_the_first_one_of_the_match_bytes() {
     let mut random = settings::random(12);
-    let (mut some, mut none) = (0, 0);
+    let (mut some, mut none, mut later, mut lost) = (0, 0, 0, 0);
     for _ in 0..5000 {
         let shape = small_shape(&mut random);
         let layout = shape.layout().unwrap();
         let cells = random.levels(layout.levels(), layout.cells());
+        let lines = any_lines(&mut random, shape.rows);
         let inputs = random.levels(layout.levels().min(3), shape.width);
-        let mut matches = vec![9; shape.rows];
-        let count = peer::lookup(shape, &cells, &inputs, &mut matches).unwrap();
-        let first = peer::first_match(shape, &cells, &inputs).unwrap();
-        assert_eq!(first, matches.iter().position(|&line| line == 1));
-        assert_eq!(count, matches.iter().filter(|&&line| line == 1).count());
-        assert!(matches.iter().all(|&line| line <= 1));
+        let look_up = |lines: &[u8]| {
+            let mut matches = vec![9; shape.rows];
+            let count = peer::lookup(shape, &cells, lines, &inputs, &mut matches).unwrap();
+            let first = peer::first_match(shape, &cells, lines, &inputs).unwrap();
+            assert_eq!(first, matches.iter().position(|&matched| matched == 1));
+            assert!(matches.iter().all(|&matched| matched <= 1));
+            assert_eq!(count, matches.iter().map(|&m| usize::from(m)).sum());
+            (matches, first)
+        };
+        let (cells_match, earlier) = look_up(&vec![0; shape.rows]);
+        let (matches, first) = look_up(&lines);
+        for row in 0..shape.rows {
+            let wanted = if lines[row] == 0 { cells_match[row] } else { 0 };
+            assert_eq!(matches[row], wanted);
+        }
         match first {
             Some(_) => some += 1,
             None => none += 1,
         }
+        later += usize::from(first.is_some() && first != earlier);
+        lost += usize::from(first.is_none() && earlier.is_some());
     }
     assert!(some > 500 && none > 500, "{some} {none}");
+    assert!(later > 100 && lost > 100, "{later} {lost}");
 }

@@ -7,7 +7,7 @@ use peer::testing::naive::spec::questions;
 use peer::testing::settings;
 use peer::testing::shapes::small_shape;
 use peer::testing::skips::{example, too_many};
-use peer::{Answer, Array, Call, Cycle, Name, Phase, Shape};
+use peer::{Answer, Array, Call, Cycle, Name, Phase, Shape, State};
 
 /// One way of making the calls.
 type Make = fn(&mut Array, &mut Call<Vec<u8>>) -> Answer;
@@ -115,12 +115,12 @@ const SHAPES: [(u8, Shape); 9] = [
     (5, Shape { rows: 4097, ..GOOD }),
 ];
 
-/// How many buffers there are: those of the state, the cells first, and behind
-/// them the match bytes of a whole cycle.
+/// How many buffers there are: those of the state, cells and lines first, and
+/// behind them the match bytes of a whole cycle.
 fn buffers(name: Name) -> usize {
     match name {
-        Name::Start => 4,
-        _ => 5,
+        Name::Start => State::<()>::BUFFERS,
+        _ => State::<()>::BUFFERS + 1,
     }
 }
 
@@ -135,7 +135,7 @@ fn lengthen(array: &mut Array, call: &mut Call<Vec<u8>>, place: usize) {
 
 /// A call that is given a shape, a number of digits and perhaps a buffer of a
 /// wrong length, while a cycle is open. The first question that fails counts, and
-/// a refused call leaves everything. A start is not lent the cells.
+/// a refused call leaves everything. A start is not lent cells and lines.
 fn check_order(make: Make, name: Name, number: u8, shape: Shape, skip: usize, long: Option<usize>) {
     let mut array = Array::fresh(GOOD).unwrap();
     assert_eq!(array.start(1), Answer::Done);
@@ -144,7 +144,7 @@ fn check_order(make: Make, name: Name, number: u8, shape: Shape, skip: usize, lo
     if let Some(place) = long {
         lengthen(&mut array, &mut call, place);
     }
-    let wrong_length = long.is_some_and(|place| place > 0 || name == Name::Run);
+    let wrong_length = long.is_some_and(|place| place > 1 || name == Name::Run);
     let wanted = match number {
         0 if skip >= GOOD.digits => 15,
         0 if wrong_length => 6,
@@ -189,7 +189,7 @@ fn a_refused_start_leaves_an_open_cycle() {
         assert_eq!(left.start(skip), Answer::Done);
         let mut asked = left.clone();
         let mut matches = vec![7; shape.rows];
-        for _ in 0..layout.lookups(skip) {
+        for _ in 0..layout.steps(skip) {
             let skip = random.pick(&too_many(shape.digits));
             assert_eq!(asked.start(skip), Answer::Refused(15));
             let run = asked.make(&mut Call::Run {
@@ -202,27 +202,30 @@ fn a_refused_start_leaves_an_open_cycle() {
             assert_eq!(left.step(&mut matches), Answer::Done);
         }
         assert_eq!(asked, left);
-        assert_eq!(left.cycle, complete(layout.lookups(skip), skip));
+        assert_eq!(left.cycle, complete(layout.steps(skip), skip));
     }
 }
 
-/// The vectors of a whole cycle: check, digit, column and factor.
+/// The vectors of a whole cycle behind its opening: check, digit, column and
+/// factor.
 fn vectors(shape: Shape, skip: usize) -> Vec<[usize; 4]> {
     let mut array = Array::fresh(shape).unwrap();
     let mut matches = vec![0; shape.rows];
     let mut vectors = Vec::new();
     assert_eq!(array.start(skip), Answer::Done);
+    assert_eq!(array.step(&mut matches), Answer::Done);
     while array.cycle.phase == Phase::Open {
         let now = array.cycle;
         vectors.push([now.check, now.digit, now.column, now.factor]);
         assert_eq!(array.step(&mut matches), Answer::Done);
     }
-    assert_eq!(array.cycle, complete(vectors.len(), skip));
+    assert_eq!(array.cycle, complete(1 + vectors.len(), skip));
     vectors
 }
 
 /// A cycle has the vectors of the whole one whose digit is not skipped, in the
-/// same order, and so (q / ρ^z − 1) × W of them. All radices and digits.
+/// same order, and so (q / ρ^z − 1) × W of them besides the opening. All radices
+/// and digits.
 #[test]
 fn a_coarse_cycle_leaves_out_the_vectors_of_low_digits() {
     let mut coarse = 0;

@@ -1,6 +1,7 @@
 //! The step against the schedule as nested loops with full lookups, and the
 //! records that a step takes.
 
+use peer::testing::lines::{any_lines, beside_opening};
 use peer::testing::naive::calls::step_with;
 use peer::testing::naive::schedule::Schedule;
 use peer::testing::naive::spec::{questions, Spec};
@@ -62,26 +63,27 @@ impl Stepped {
     }
 }
 
-/// Any bytes for counters, flags and totals.
+/// Any bytes for lines, counters, flags and totals.
 fn meddle(random: &mut Random, shape: Shape, state: &mut State<Vec<u8>>) {
+    state.lines = any_lines(random, shape.rows);
     state.counters = random.bytes(shape.rows);
     (state.flags, state.totals) = foreign(random, &shape.layout().unwrap());
 }
 
 /// Runs a whole cycle both ways and compares all that is lent after each step.
-/// Where it is `disturbed`, counters, flags and totals are overwritten now and
-/// then.
+/// Where it is `disturbed`, lines, counters, flags and totals are overwritten
+/// now and then.
 fn compare_cycle(random: &mut Random, shape: Shape, skip: usize, disturbed: bool) {
     let spec = questions(shape).unwrap();
     let schedule = spec.schedule(skip);
-    assert_eq!(schedule.lookups(), spec.lookups(skip));
+    assert_eq!(schedule.steps(), spec.steps(skip));
     let mut ours = Stepped::drawn(random, &spec);
     assert_eq!(ours.array.start(skip), Answer::Done);
     assert_eq!(ours.array.cycle, schedule.record(0));
-    let [_, zeros @ ..] = ours.array.state.each().into_array();
+    let [_, _, zeros @ ..] = ours.array.state.each().into_array();
     assert!(zeros.into_iter().flatten().all(|&byte| byte == 0));
     let mut plain = ours.clone();
-    for _ in 0..schedule.lookups() {
+    for _ in 0..schedule.steps() {
         if disturbed && random.one_in(3) {
             meddle(random, shape, &mut ours.array.state);
             plain.array.state = ours.array.state.clone();
@@ -113,7 +115,7 @@ fn whole_cycles_on_small_shapes() {
 }
 
 #[test]
-fn whole_cycles_with_any_bytes_in_counters_flags_and_totals() {
+fn whole_cycles_with_any_bytes_in_lines_counters_flags_and_totals() {
     let mut random = settings::random(4);
     for _ in 0..200 {
         let shape = small_shape(&mut random);
@@ -167,9 +169,9 @@ fn steps_on_many_rows() {
         let spec = questions(shape).unwrap();
         let skip = random.below(shape.digits) * random.below(2);
         let schedule = spec.schedule(skip);
-        let last = schedule.lookups() - 1;
+        let last = schedule.steps() - 1;
         let mut ours = Stepped::drawn(&mut random, &spec);
-        for count in [0, random.below(last + 1), last] {
+        for count in [0, 1, random.below(last + 1), last] {
             ours.array.cycle = schedule.record(count);
             let mut plain = ours.clone();
             assert_eq!(ours.step(), Answer::Done);
@@ -188,7 +190,7 @@ fn records_around(spec: &Spec, skip: usize) -> Vec<Cycle> {
             for digit in 0..=spec.shape.digits {
                 for column in 0..=spec.columns() {
                     for factor in 0..=spec.levels {
-                        records.extend((0..=spec.lookups(0)).map(|count| Cycle {
+                        records.extend((0..=spec.steps(0)).map(|count| Cycle {
                             phase,
                             check,
                             digit,
@@ -214,7 +216,7 @@ struct Answers {
 
 impl Answers {
     /// A step with the record. It is taken exactly where the record awaits a
-    /// vector of one of the schedules, and then brings the next record; a
+    /// lookup of one of the schedules, and then brings the next record; a
     /// refused one leaves all as it was.
     fn compare(&mut self, schedules: &[Schedule], fresh: &Stepped, cycle: Cycle) {
         let mut ours = fresh.with(cycle);
@@ -252,16 +254,47 @@ fn a_step_takes_the_records_of_the_schedules_and_no_others() {
             for cycle in records_around(&spec, skip) {
                 answers.compare(&schedules, &fresh, cycle);
             }
-            let lookups = schedules.get(skip).map_or(0, Schedule::lookups);
-            assert_eq!(answers.taken, lookups);
-            assert!(answers.refused > lookups);
+            let steps = schedules.get(skip).map_or(0, Schedule::steps);
+            assert_eq!(answers.taken, steps);
+            assert!(answers.refused > steps);
+        }
+    }
+}
+
+/// The record that a start leaves has place and count 0 and any z below b. What
+/// stands beside it is refused.
+#[test]
+fn a_step_takes_an_opening_and_no_record_beside_it() {
+    let mut random = settings::random(31);
+    for _ in 0..300 {
+        let spec = questions(small_shape(&mut random)).unwrap();
+        let fresh = Stepped::drawn(&mut random, &spec);
+        for skip in 0..spec.shape.digits {
+            let opening = Cycle {
+                phase: Phase::Open,
+                check: 0,
+                digit: 0,
+                column: 0,
+                factor: 0,
+                count: 0,
+                skip,
+            };
+            assert_eq!(Cycle::open(skip), opening);
+            let mut ours = fresh.with(opening);
+            assert_eq!(ours.step(), Answer::Done);
+            assert_eq!(ours.array.cycle, spec.schedule(skip).record(1));
+            for beside in beside_opening(&spec, skip) {
+                let mut ours = fresh.with(beside);
+                assert_eq!(ours.step(), REFUSED, "{beside:?}");
+                assert_eq!(ours, fresh.with(beside));
+            }
         }
     }
 }
 
 /// The z of a record is changed in the middle of a cycle. The new one is taken
-/// only where a start with it leaves the same place and count: in the first
-/// check, down to the greater z.
+/// only where a start with it leaves the same place and count: at the opening,
+/// and in the first check, down to the greater z.
 #[test]
 fn a_step_with_another_skip_in_its_record() {
     let mut random = settings::random(26);
@@ -272,13 +305,14 @@ fn a_step_with_another_skip_in_its_record() {
         let schedules: Vec<Schedule> = spec.schedules().collect();
         let fresh = Stepped::drawn(&mut random, &spec);
         for schedule in &schedules {
-            for count in 0..schedule.lookups() {
+            for count in 0..schedule.steps() {
                 let cycle = schedule.record(count);
                 let others = (0..digits).filter(|&skip| skip != schedule.skip);
                 for skip in others.chain(too_many(digits)) {
                     let before = answers.taken;
                     answers.compare(&schedules, &fresh, Cycle { skip, ..cycle });
-                    let alike = skip < digits && cycle.check == 0 && cycle.digit >= skip;
+                    let same_place = count == 0 || cycle.check == 0 && cycle.digit >= skip;
+                    let alike = skip < digits && same_place;
                     assert_eq!(answers.taken > before, alike, "{cycle:?} {skip}");
                 }
             }
@@ -304,7 +338,7 @@ fn forged_records_are_refused() {
         let schedules: Vec<Schedule> = spec.schedules().collect();
         for _ in 0..200 {
             let schedule = &schedules[random.below(shape.digits)];
-            let count = random.below(schedule.lookups() + 1);
+            let count = random.below(schedule.steps() + 1);
             let cycle = forged(&mut random, schedule.record(count));
             let fresh = Stepped::drawn(&mut random, &spec);
             answers.compare(&schedules, &fresh, cycle);
@@ -325,7 +359,7 @@ fn records_of_other_shapes() {
         let other = small_shape(&mut random);
         let skip = random.below(other.digits);
         let foreign = questions(other).unwrap().schedule(skip);
-        let count = random.below(foreign.lookups());
+        let count = random.below(foreign.steps());
         let fresh = Stepped::drawn(&mut random, &spec);
         answers.compare(&schedules, &fresh, foreign.record(count));
     }
@@ -350,7 +384,8 @@ fn a_start_from_any_record() {
             0 => {
                 assert_eq!(ours.start(skip), Answer::Done);
                 assert_eq!(ours.cycle, spec.schedule(skip).record(0));
-                assert_eq!(ours.cycle, Cycle::open(&shape.layout().unwrap(), skip));
+                assert_eq!(ours.cycle, Cycle::open(skip));
+                assert_eq!(ours.state.lines, old.state.lines);
             }
             1 => {
                 ours.state.counters.push(7);

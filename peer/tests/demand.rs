@@ -2,13 +2,17 @@
 //! log is fed the shape and the calls with their arguments, and none of the
 //! library's answers. Beside it, what the panel is told and a full reading of
 //! the flags.
+//!
+//! A verdict is asked for where no byte of cells or lines has changed since the
+//! cycle's start, which is less than document 01's mark asks: that one is put on
+//! by a drift or a line setting to the value that stands there too.
 
 use peer::testing::lists::list;
 use peer::testing::naive::panel::counts;
 use peer::testing::naive::spec::{questions, Spec};
 use peer::testing::settings;
 use peer::testing::shapes::{short_coarse_shape, BLOCK_EDGES};
-use peer::testing::verdict::{assert_flag, differing};
+use peer::testing::verdict::{assert_flag, Row};
 use peer::{panel, Answer, Array, Call, Panel, Phase, Shape, State};
 
 #[derive(Clone, Copy, Debug, PartialEq, Eq)]
@@ -23,11 +27,16 @@ struct Log {
     spec: Spec,
     written: Vec<Vec<u8>>,
     standing: Vec<Vec<u8>>,
+    lines: Vec<u8>,
     cycle: LoggedCycle,
     count: usize,
     /// The z of the cycle, 0 where there is none.
     skip: usize,
+    /// Whether a cell drifted or a line was set since the start, to whatever.
     mark: bool,
+    /// Whether a byte of cells or lines became another one by that. It stays a
+    /// change where it is undone.
+    changed: bool,
     /// Whether the last call is a step that ended a cycle.
     just_ended: bool,
 }
@@ -40,10 +49,12 @@ impl Log {
             spec,
             written: zeros.clone(),
             standing: zeros,
+            lines: vec![0; shape.rows],
             cycle: LoggedCycle::None,
             count: 0,
             skip: 0,
             mark: false,
+            changed: false,
             just_ended: false,
         }
     }
@@ -60,6 +71,7 @@ impl Log {
             Call::Clear => *self = Log::new(self.spec.shape),
             Call::Program { row, levels } => self.program(*row, levels),
             Call::Drift { row, column, level } => self.drift(*row, *column, *level),
+            Call::Line { row, byte } => self.line(*row, *byte),
             Call::Lookup { .. } => {}
             Call::Start { skip } => self.start(*skip),
             Call::Step { matches } => self.step(matches.len()),
@@ -85,8 +97,17 @@ impl Log {
 
     fn drift(&mut self, row: usize, column: usize, level: u8) {
         if row < self.spec.shape.rows && column < self.spec.columns() && self.below(&[level]) {
-            self.standing[row][column] = level;
             self.mark = true;
+            self.changed |= self.standing[row][column] != level;
+            self.standing[row][column] = level;
+        }
+    }
+
+    fn line(&mut self, row: usize, byte: u8) {
+        if row < self.spec.shape.rows && byte <= 1 {
+            self.mark = true;
+            self.changed |= self.lines[row] != byte;
+            self.lines[row] = byte;
         }
     }
 
@@ -96,6 +117,7 @@ impl Log {
             self.count = 0;
             self.skip = skip;
             self.mark = false;
+            self.changed = false;
         }
     }
 
@@ -103,11 +125,23 @@ impl Log {
         if self.cycle == LoggedCycle::Open && match_bytes == self.spec.shape.rows {
             self.count += 1;
             let levels = self.spec.levels / self.spec.shape.radix.pow(self.skip as u32);
-            if self.count == (levels - 1) * self.spec.weight() {
+            if self.count == 1 + (levels - 1) * self.spec.weight() {
                 self.cycle = LoggedCycle::Ended;
                 self.just_ended = true;
             }
         }
+    }
+
+    /// The rows in both forms, with their lines.
+    fn rows(&self) -> impl Iterator<Item = Row<'_>> {
+        let forms = self.written.iter().zip(&self.standing);
+        forms
+            .zip(&self.lines)
+            .map(|((written, standing), &line)| Row {
+                written,
+                standing,
+                line,
+            })
     }
 }
 
@@ -116,15 +150,18 @@ impl Log {
 struct Verdicts {
     /// The cycles that ended with one.
     cycles: usize,
-    /// Rows whose two forms are equal.
+    /// Rows with a dead line: whose forms do not differ above the skipped digits,
+    /// differ there in at most τ cells, and in more.
+    dead: [usize; 3],
+    /// Rows with a sound line whose two forms are equal.
     clean: usize,
-    /// Rows whose forms differ, but not above the skipped digits.
+    /// Such whose forms differ, but not above the skipped digits.
     low: usize,
-    /// Rows that differ there in so many cells, at most τ.
+    /// Such that differ there in so many cells, at most τ.
     changed: [usize; 4],
     /// Those of them that differ in more than τ cells, some of them lower.
     more_below: usize,
-    /// Rows that differ there in more than τ cells, and those not flagged.
+    /// Such that differ there in more than τ cells, and those not flagged.
     beyond: usize,
     missed: usize,
 }
@@ -135,7 +172,12 @@ struct Seen {
     /// The verdicts of cycles of all digits, and of coarse ones.
     fine: Verdicts,
     coarse: Verdicts,
-    ended_with_mark: usize,
+    /// Cycles that ended with the mark on and no change, so with a verdict, and
+    /// such that ended with a change.
+    only_marked: usize,
+    ended_changed: usize,
+    /// Verdicts that still hold after a later call.
+    later: usize,
     refused: usize,
     /// Starts that were refused while a cycle was open.
     refused_starts: usize,
@@ -169,6 +211,7 @@ fn check_panel(array: &Array, seen: &mut Seen) {
 /// The claim after a list.
 fn check(log: &Log, array: &Array, seen: &mut Seen) {
     assert_eq!(array.state.cells, log.standing.concat());
+    assert_eq!(array.state.lines, log.lines);
     let phase = match log.cycle {
         LoggedCycle::None => Phase::Idle,
         LoggedCycle::Open => Phase::Open,
@@ -183,37 +226,51 @@ fn check(log: &Log, array: &Array, seen: &mut Seen) {
         Phase::Open => seen.open += 1,
         Phase::Complete => seen.complete += 1,
     }
-    if log.just_ended {
-        if log.mark {
-            seen.ended_with_mark += 1;
-        } else if log.skip == 0 {
-            check_verdict(log, array, &mut seen.fine);
-        } else {
-            check_verdict(log, array, &mut seen.coarse);
-        }
+    // where document 01's mark is off, nothing has changed
+    assert!(log.mark || !log.changed);
+    if log.cycle == LoggedCycle::Ended && !log.changed {
+        check_verdict(log, array, seen);
+    }
+    seen.ended_changed += usize::from(log.just_ended && log.changed);
+}
+
+/// The flags after a cycle has ended, where nothing changed since its start.
+fn check_verdict(log: &Log, array: &Array, seen: &mut Seen) {
+    for (row, &flag) in log.rows().zip(&array.state.flags) {
+        assert_flag(&log.spec, row, log.skip, flag);
+    }
+    if !log.just_ended {
+        seen.later += 1;
+        return;
+    }
+    seen.only_marked += usize::from(log.mark);
+    let verdicts = match log.skip {
+        0 => &mut seen.fine,
+        _ => &mut seen.coarse,
+    };
+    verdicts.cycles += 1;
+    for (row, &flag) in log.rows().zip(&array.state.flags) {
+        verdicts.count(&log.spec, row, log.skip, flag);
     }
 }
 
-/// The flags after a cycle that ended with the mark off.
-fn check_verdict(log: &Log, array: &Array, seen: &mut Verdicts) {
-    let Log { spec, skip, .. } = log;
-    let errors = spec.shape.errors;
-    seen.cycles += 1;
-    for (row, &flag) in array.state.flags.iter().enumerate() {
-        let (written, standing) = (&log.written[row], &log.standing[row]);
-        assert_flag(spec, written, standing, *skip, flag);
-        let in_all = differing(spec, written, standing, 0);
-        let above = differing(spec, written, standing, *skip);
-        match above {
-            0 if in_all == 0 => seen.clean += 1,
-            0 => seen.low += 1,
-            _ if above > errors => {
-                seen.beyond += 1;
-                seen.missed += usize::from(flag == 0);
+impl Verdicts {
+    /// Counts what was said of a row.
+    fn count(&mut self, spec: &Spec, row: Row, skip: usize, flag: u8) {
+        let errors = spec.shape.errors;
+        let in_all = row.differing(spec, 0);
+        match row.differing(spec, skip) {
+            0 if row.is_dead() => self.dead[0] += 1,
+            above if row.is_dead() => self.dead[1 + usize::from(above > errors)] += 1,
+            0 if in_all == 0 => self.clean += 1,
+            0 => self.low += 1,
+            above if above > errors => {
+                self.beyond += 1;
+                self.missed += usize::from(flag == 0);
             }
-            _ => {
-                seen.changed[above] += 1;
-                seen.more_below += usize::from(in_all > errors);
+            above => {
+                self.changed[above] += 1;
+                self.more_below += usize::from(in_all > errors);
             }
         }
     }
@@ -251,11 +308,13 @@ fn demand_3_holds_on_random_lists() {
         assert!(verdicts.cycles > 5000);
         assert!(verdicts.clean > 5000);
         assert!(verdicts.changed[1..].iter().all(|&rows| rows > 50));
+        assert!(verdicts.dead.iter().all(|&rows| rows > 100));
         assert!(verdicts.beyond > 100);
         assert!(verdicts.missed > 0);
     }
     assert!(seen.coarse.low > 500 && seen.coarse.more_below > 300);
-    assert!(seen.ended_with_mark > 100);
+    assert!(seen.only_marked > 100 && seen.ended_changed > 100);
+    assert!(seen.later > 1000);
     assert!(seen.refused > 1000 && seen.refused_starts > 500);
     assert!(seen.idle > 1000 && seen.open > 1000 && seen.complete > 1000);
     assert!(seen.none_flagged > 1000 && seen.several_flagged > 1000);

@@ -2,10 +2,11 @@
 //! and any bytes in flags and totals.
 
 use peer::testing::draw::{self, Right};
+use peer::testing::lent::wrong_lengths;
 use peer::testing::naive::calls::make;
 use peer::testing::naive::panel::counts;
 use peer::testing::naive::spec::questions;
-use peer::testing::panels::{foreign, wrong_lengths, Cases, EXAMPLE, WITH_TOTALS};
+use peer::testing::panels::{foreign, Cases, EXAMPLE, WITH_TOTALS};
 use peer::testing::random::Random;
 use peer::testing::settings;
 use peer::testing::shapes::{block_shape, short_coarse_shape, BLOCK_EDGES};
@@ -33,7 +34,7 @@ fn opened(random: &mut Random, shape: Shape) -> Array {
     Array {
         shape,
         state,
-        cycle: Cycle::open(&layout, 0),
+        cycle: Cycle::open(0),
     }
 }
 
@@ -118,11 +119,12 @@ fn clear_and_start_write_zeros_over_any_totals() {
     }
 }
 
-/// All rows are sound, so that no flag is raised, and before each step any bytes
-/// come into flags and totals. The last step of a digit counts the flags that
-/// are not 0 and leaves them; every other step leaves the totals too.
+/// All rows and lines are sound, so that no flag is raised, and before each step
+/// any bytes come into flags and totals. The opening and the last step of a
+/// digit count the flags that are not 0 and leave them; every other step leaves
+/// the totals too.
 #[test]
-fn a_step_counts_at_the_end_of_a_digit_and_nowhere_else() {
+fn a_step_counts_at_the_opening_and_the_end_of_a_digit_and_nowhere_else() {
     let mut random = settings::random(24);
     let (mut counted, mut left) = (0, 0);
     for rows in BLOCK_EDGES.repeat(5) {
@@ -135,13 +137,13 @@ fn a_step_counts_at_the_end_of_a_digit_and_nowhere_else() {
         let schedule = questions(shape).unwrap().schedule(skip);
         let mut array = Array::fresh(shape).unwrap();
         assert_eq!(array.start(skip), Answer::Done);
-        for count in 0..schedule.lookups() {
+        for count in 0..schedule.steps() {
             let (flags, totals) = foreign(&mut random, &layout);
             array.state.flags.clone_from(&flags);
             array.state.totals.clone_from(&totals);
             assert_eq!(array.step(&mut vec![0; rows]), Answer::Done);
             assert_eq!(array.state.flags, flags, "{shape}");
-            if schedule.ends_digit(count) {
+            if schedule.looks_for_flags(count) {
                 assert_eq!(array.state.totals, counts(&flags), "{shape}");
                 counted += 1;
             } else {

@@ -104,6 +104,7 @@ fn random_shapes_agree_with_the_definition() {
                 assert_eq!(layout.cells(), spec.cells());
                 for skip in 0..shape.digits {
                     assert_eq!(layout.lookups(skip), spec.lookups(skip));
+                    assert_eq!(layout.steps(skip), spec.steps(skip));
                 }
                 seen[0] += 1;
             }

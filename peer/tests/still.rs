@@ -1,12 +1,14 @@
 //! Cycles of every z on arrays that stand still: which rows they flag, and that
-//! none is flagged once the flagged ones are programmed anew.
+//! none but those with a dead line is flagged once the flagged ones are
+//! programmed anew.
 
+use peer::testing::lines::any_lines;
 use peer::testing::lists::list;
 use peer::testing::naive::spec::{questions, Spec};
 use peer::testing::random::Random;
 use peer::testing::settings;
 use peer::testing::shapes::short_coarse_shape;
-use peer::testing::verdict::{assert_flag, differing};
+use peer::testing::verdict::{assert_flag, Row};
 use peer::{Answer, Array, Call, Phase, Shape};
 
 /// A start and steps to the end of the cycle.
@@ -18,11 +20,13 @@ fn run_cycle(array: &mut Array, skip: usize) {
     }
 }
 
-/// The flags that a cycle leaves on the rows.
-fn flags_after(shape: Shape, rows: &[Vec<u8>], skip: usize) -> Vec<u8> {
+/// The flags that a cycle leaves on the rows with their lines.
+fn flags_after(shape: Shape, rows: &[Vec<u8>], lines: &[u8], skip: usize) -> Vec<u8> {
     let mut array = Array::fresh(shape).unwrap();
     array.state.cells = rows.concat();
+    array.state.lines = lines.to_vec();
     run_cycle(&mut array, skip);
+    assert_eq!(array.state.lines, lines);
     array.state.flags
 }
 
@@ -36,10 +40,11 @@ fn all_rows(spec: &Spec) -> Vec<Vec<u8>> {
         .collect()
 }
 
-/// Some small shapes and all that can become of a row of them. Every change of up
-/// to τ cells above the skipped digits is caught.
+/// Some small shapes and all that can become of a row of them, with a sound line
+/// and with a dead one. Every change of up to τ cells above the skipped digits is
+/// caught, and every dead line.
 #[test]
-fn every_change_of_few_cells_is_flagged() {
+fn every_change_of_few_cells_and_every_dead_line_is_flagged() {
     for (radix, digits, errors, width) in [
         (2, 2, 1, 3),
         (2, 3, 1, 2),
@@ -58,9 +63,16 @@ fn every_change_of_few_cells_is_flagged() {
         let rows = all_rows(&spec);
         spec.shape.rows = rows.len();
         for skip in 0..digits {
-            let flags = flags_after(spec.shape, &rows, skip);
-            for (standing, flag) in rows.iter().zip(flags) {
-                assert_flag(&spec, &written, standing, skip, flag);
+            for line in [0, 1, 2, 255] {
+                let flags = flags_after(spec.shape, &rows, &vec![line; rows.len()], skip);
+                for (standing, flag) in rows.iter().zip(flags) {
+                    let row = Row {
+                        written: &written,
+                        standing,
+                        line,
+                    };
+                    assert_flag(&spec, row, skip, flag);
+                }
             }
         }
     }
@@ -80,23 +92,30 @@ fn changed_row(random: &mut Random, spec: &Spec) -> (Vec<u8>, Vec<u8>) {
 }
 
 /// Shapes of many digits: rows that differ above the skipped digits, below them
-/// alone, in more cells than are caught, and not at all.
+/// alone, in more cells than are caught, and not at all; and such with a dead
+/// line.
 #[test]
 fn changes_of_many_digits() {
     let mut random = settings::random(29);
-    let (mut above, mut below, mut beyond, mut clean) = (0, 0, 0, 0);
+    let (mut above, mut below, mut beyond, mut clean, mut dead) = (0, 0, 0, 0, 0);
     for (radix, digits) in [(2, 8), (2, 5), (3, 5), (4, 4), (6, 3), (15, 2), (16, 2)] {
         for errors in [1, 2, 3] {
             let spec = questions(Shape::new(radix, digits, errors, 5, 100)).unwrap();
             let rows = (0..100).map(|_| changed_row(&mut random, &spec));
             let (written, standing): (Vec<_>, Vec<_>) = rows.unzip();
+            let lines = any_lines(&mut random, 100);
             for skip in 0..digits {
-                let flags = flags_after(spec.shape, &standing, skip);
-                for (row, flag) in flags.into_iter().enumerate() {
-                    let (written, standing) = (&written[row], &standing[row]);
-                    assert_flag(&spec, written, standing, skip, flag);
-                    match differing(&spec, written, standing, skip) {
-                        0 if written == standing => clean += 1,
+                let flags = flags_after(spec.shape, &standing, &lines, skip);
+                for (number, flag) in flags.into_iter().enumerate() {
+                    let row = Row {
+                        written: &written[number],
+                        standing: &standing[number],
+                        line: lines[number],
+                    };
+                    assert_flag(&spec, row, skip, flag);
+                    match row.differing(&spec, skip) {
+                        _ if row.is_dead() => dead += 1,
+                        0 if row.written == row.standing => clean += 1,
                         0 => below += 1,
                         cells if cells > errors => beyond += 1,
                         _ => above += 1,
@@ -105,8 +124,9 @@ fn changes_of_many_digits() {
             }
         }
     }
-    println!("{above} above, {below} below alone, {beyond} beyond, {clean} clean");
-    assert!([above, below, beyond, clean].iter().all(|&rows| rows > 300));
+    let seen = [above, below, beyond, clean, dead];
+    println!("above, below alone, beyond, clean, dead: {seen:?}");
+    assert!(seen.iter().all(|&rows| rows > 300));
 }
 
 /// Programs the flagged rows anew, with any levels.
@@ -121,36 +141,55 @@ fn reprogram(random: &mut Random, array: &mut Array) {
     }
 }
 
+/// Makes every line sound.
+fn mend_lines(array: &mut Array) {
+    for row in 0..array.shape.rows {
+        let answer = array.make(&mut Call::<Vec<u8>>::Line { row, byte: 0 });
+        assert_eq!(answer, Answer::Done);
+    }
+}
+
+/// The rows that a cycle flags.
+fn flagged_by(array: &mut Array, skip: usize) -> Vec<bool> {
+    run_cycle(array, skip);
+    array.state.flags.iter().map(|&flag| flag == 1).collect()
+}
+
 /// Once the rows that a cycle flags are programmed anew, a cycle that skips as
-/// many digits or more flags none; so after one of all digits no cycle does. One
-/// that skips fewer may see what the first one skipped.
+/// many digits or more flags exactly those with a dead line, and none where the
+/// lines are sound; so after one of all digits no cycle does. One that skips
+/// fewer may see what the first one skipped.
 #[test]
-fn no_row_is_flagged_after_the_flagged_ones_are_programmed() {
+fn no_row_with_a_sound_line_is_flagged_after_the_flagged_ones_are_programmed() {
     let mut random = settings::random(27);
-    let (mut shut_down, mut seen_below) = (0, 0);
+    let (mut shut_down, mut seen_below, mut still_dead) = (0, 0, 0);
     for _ in 0..settings::lists(1_000) {
         let shape = short_coarse_shape(&mut random, 120);
         let mut array = Array::fresh(shape).unwrap();
         for mut call in list(&mut random, shape, 10) {
             array.make(&mut call);
         }
+        let none = vec![false; shape.rows];
         for first in 0..shape.digits {
             let mut mended = array.clone();
-            run_cycle(&mut mended, first);
-            let flagged = mended.state.flags.contains(&1);
+            let flagged = flagged_by(&mut mended, first) != none;
             reprogram(&mut random, &mut mended);
+            let dead: Vec<bool> = array.state.lines.iter().map(|&line| line != 0).collect();
+            let mut sound = mended.clone();
+            mend_lines(&mut sound);
             for second in 0..shape.digits {
-                run_cycle(&mut mended, second);
-                let flagged_again = mended.state.flags.contains(&1);
+                let flagged_again = flagged_by(&mut sound, second);
                 if second < first {
-                    seen_below += usize::from(flagged_again);
+                    seen_below += usize::from(flagged_again != none);
                 } else {
-                    assert!(!flagged_again, "{shape} {first} {second}");
+                    assert_eq!(flagged_again, none, "{shape} {first} {second}");
+                    assert_eq!(flagged_by(&mut mended, second), dead);
                     shut_down += usize::from(flagged);
+                    still_dead += usize::from(dead != none);
                 }
             }
         }
     }
-    println!("{shut_down} times shut down, {seen_below} times seen below");
-    assert!(shut_down > 1_000 && seen_below > 100);
+    println!("{shut_down} shut down, {seen_below} seen below, {still_dead} still dead");
+    assert!(shut_down > 1_000 && seen_below > 100 && still_dead > 300);
 }

@@ -1,8 +1,8 @@
-// The comparator: the match rule, and the match byte of a row.
+// The comparator: the match rule, the match byte of a row, and what its match line makes of it.
 ghost use mathlib.Core.Path.{_≡_};
 ghost use Prim.Native.Nat.{_≤_};
 ghost use lib.ListN.{length, take};
-ghost use Rattle.parity.specs.Match.{answers as answersTo, matchByte};
+ghost use Rattle.parity.specs.Match.{answers as answersTo, matchByte, lineMatch};
 ghost use Rattle.shape.specs.Lent.{was};
 
 // The match rule, coded here alone: a cell answers 1 exactly when input ≤ cell.
@@ -25,4 +25,15 @@ pub fn match_byte(inputs: &[u8], row: &[u8]) -> u8
         j += 1;
     }
     1
+}
+
+// The byte that a row's match line gives: a dead line gives 0, and its cells are not looked at.
+pub fn line_match(line: u8, inputs: &[u8], row: &[u8]) -> u8
+    requires { ⌜ length (now inputs) ≤ length (now row) ⌝ }
+    ensures { λ r. ⌜ r ≡ lineMatch line (was inputs) (take (length (was inputs)) (was row)) ⌝ }
+{
+    if line != 0 {
+        return 0;
+    }
+    match_byte(inputs, row)
 }

@@ -1,4 +1,4 @@
--- Document 01's calls that have no cycle record, each as one definition, taken or refused; and what programming does to the memory.
+-- The calls that have no cycle record and no inputs, document 01's and the line call of document 02's Card 4, each as one definition, taken or refused; and what programming does to the memory.
 use mathlib.Core.Bool.{Bool, false}
 use mathlib.Core.List.{List, [], _∷_}
 use Prim.Native.Nat.{ℕ, _+_, _*_}
@@ -9,8 +9,8 @@ use Rattle.parity.specs.Questions.{firstNo, placeQuestion}
 use Rattle.parity.specs.declared.Shape.{Shape}
 use Rattle.shape.specs.Answers.{Said, Result, accepted, answering, giving, calling}
 use Rattle.array_memory.specs.Geometry.{rowAt, withRow}
-use Rattle.array_memory.specs.Memory.{Memory, withCells}
-use Rattle.array_memory.specs.Questions.{cellsQuestions, driftArguments, rowArguments}
+use Rattle.array_memory.specs.Memory.{Memory, withCells, withLines}
+use Rattle.array_memory.specs.Questions.{cellsQuestions, driftArguments, rowArguments, lineQuestions}
 
 -- ---- drift
 
@@ -22,6 +22,15 @@ unfoldable pub driftCall : Shape → Memory → ℕ → ℕ → ℕ → Result M
 driftCall s mem row column level =
     calling (cellsQuestions s (length (mem .cells)) (driftArguments s row column level)) [] mem
     (giving (accepted 0) [] (drifted s mem row column level))
+
+-- ---- line
+
+-- that row's line byte changes and nothing else
+unfoldable pub lineSet : Memory → ℕ → ℕ → Memory
+lineSet mem row byte = withLines (set (mem .lines) row byte) mem
+
+unfoldable pub lineCall : Shape → Memory → ℕ → ℕ → Result Memory
+lineCall s mem row byte = calling (lineQuestions s (length (mem .lines)) row byte) [] mem (giving (accepted 0) [] (lineSet mem row byte))
 
 -- ---- writing a row, which is what programming does to the memory
 

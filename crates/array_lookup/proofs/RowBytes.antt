@@ -1,13 +1,14 @@
--- The match bytes of the rows of an array whose cells lie row after row: a row's match byte for inputs to its first cells, and that a task
+-- The match bytes of the rows of an array whose cells lie row after row: a row's match byte for inputs to its first cells, by its line, and that a task
 -- lookup's match byte is that of the first k cells. Assumes nothing.
 use mathlib.Core.Path.{_≡_, refl, sym, _∙_, ap}
 use mathlib.Core.Bool.{Bool, true, false, cond}
 use mathlib.Core.List.{List}
 use Prim.Native.Nat.{ℕ, _*_, _≤_, _<_}
 use native.Mathlib.Omega.{arith}
-use lib.ListN.{length, take, drop}
+use lib.Dec.{eqb}
+use lib.ListN.{length, getD, take, drop}
 use lib.Seq.{take-take}
-use Rattle.parity.specs.Match.{allAnswer, matchByte, taskVector}
+use Rattle.parity.specs.Match.{allAnswer, matchByte, lineMatch, taskVector}
 use Rattle.parity.specs.Shape.{checks, columns}
 use Rattle.parity.specs.declared.Shape.{Shape}
 use Rattle.shape.specs.declared.sizes.Sizes.{Sizes}
@@ -19,23 +20,24 @@ use Rattle.array_memory.proofs.RowPlaces.{row-sized}
 use Rattle.array_memory.proofs.Asked.{CellsTaken}
 
 -- the match byte of row i, of n cells, for inputs to its first cells
-abbrev pub byteOf : List ℕ → List ℕ → ℕ → ℕ → ℕ
-byteOf inputs cells n i = matchByte inputs (take (length inputs) (drop (i * n) cells))
+abbrev pub byteOf : List ℕ → List ℕ → List ℕ → ℕ → ℕ → ℕ
+byteOf inputs cells lines n i = lineMatch (getD lines i 0) inputs (take (length inputs) (drop (i * n) cells))
 
-pub byte-high : (inputs cells : List ℕ) (n i : ℕ) → byteOf inputs cells n i ≤ 1
-unfolding matchByte
-byte-high inputs cells n i = go (allAnswer inputs (take (length inputs) (drop (i * n) cells)))
+pub byte-high : (inputs cells lines : List ℕ) (n i : ℕ) → byteOf inputs cells lines n i ≤ 1
+unfolding lineMatch matchByte
+byte-high inputs cells lines n i = go (eqb (getD lines i 0) 0) (allAnswer inputs (take (length inputs) (drop (i * n) cells)))
   where
-    go : (t : Bool) → cond t 1 0 ≤ 1
-    go true = omega arith
-    go false = omega arith
+    go : (sound t : Bool) → cond sound (cond t 1 0) 0 ≤ 1
+    go true true = omega arith
+    go true false = omega arith
+    go false t = omega arith
 
 -- the row as the part of the cells that begins at its start
 pub part-byte :
-    (inputs cells : List ℕ) (n i start size : ℕ) → start ≡ i * n → length inputs ≤ size
-    → matchByte inputs (take (length inputs) (take size (drop start cells))) ≡ byteOf inputs cells n i
-part-byte inputs cells n i start size e h =
-    ap (matchByte inputs) (take-take (length inputs) size (drop start cells) h ∙ ap (λ x. take (length inputs) (drop x cells)) e)
+    (inputs cells lines : List ℕ) (n i start size : ℕ) → start ≡ i * n → length inputs ≤ size
+    → lineMatch (getD lines i 0) inputs (take (length inputs) (take size (drop start cells))) ≡ byteOf inputs cells lines n i
+part-byte inputs cells lines n i start size e h =
+    ap (lineMatch (getD lines i 0) inputs) (take-take (length inputs) size (drop start cells) h ∙ ap (λ x. take (length inputs) (drop x cells)) e)
 
 -- of cells that are taken, by the sizes in hand
 module _ {s : Shape} {count : ℕ} (p : CellsTaken s count) (z : Sizes) (e : z ≡ sizesOf s) where
@@ -48,12 +50,13 @@ module _ {s : Shape} {count : ℕ} (p : CellsTaken s count) (z : Sizes) (e : z �
   rows-fit = omega (arith, p .counted, ap (λ z. s .rows * z .columns) e)
 
 pub task-byte :
-    (s : Shape) (z : Sizes) (inputs cells : List ℕ) → CellsTaken s (length cells) → z ≡ sizesOf s → length inputs ≡ s .width
-    → (i : ℕ) → i < s .rows → byteOf inputs cells (z .columns) i ≡ rowMatch (columns s) (taskVector s inputs) cells i
-unfolding rowMatch rowAt taskVector columns
-task-byte s z inputs cells p e sized i h =
+    (s : Shape) (z : Sizes) (inputs cells lines : List ℕ) → CellsTaken s (length cells) → z ≡ sizesOf s → length inputs ≡ s .width
+    → (i : ℕ) → i < s .rows → byteOf inputs cells lines (z .columns) i ≡ rowMatch (columns s) (taskVector s inputs) cells lines i
+unfolding rowMatch rowAt taskVector columns lineMatch
+task-byte s z inputs cells lines p e sized i h =
     let n = columns s in
-    ap (λ z. byteOf inputs cells (z .columns) i) e
-    ∙ sym (part-byte inputs cells n i (i * n) n refl (omega arith))
-    ∙ ap (λ k. matchByte inputs (take k (rowAt n cells i))) sized
-    ∙ sym (task-match (s .width) (checks s) inputs (rowAt n cells i) sized (row-sized s cells i (p .counted) h))
+    ap (λ z. byteOf inputs cells lines (z .columns) i) e
+    ∙ sym (part-byte inputs cells lines n i (i * n) n refl (omega arith))
+    ∙ ap (λ byte. cond (eqb (getD lines i 0) 0) byte 0)
+    (ap (λ k. matchByte inputs (take k (rowAt n cells i))) sized
+    ∙ sym (task-match (s .width) (checks s) inputs (rowAt n cells i) sized (row-sized s cells i (p .counted) h)))

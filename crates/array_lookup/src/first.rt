@@ -6,22 +6,25 @@ use shape::answer::First;
 use shape::sizes::Checked;
 ghost use mathlib.Core.Path.{_≡_};
 ghost use Prim.Native.Nat.{_*_, _≤_};
-ghost use lib.ListN.{length, take, drop};
-ghost use Rattle.parity.specs.Match.{matchByte};
+ghost use lib.ListN.{length, getD, take, drop};
+ghost use Rattle.parity.specs.Match.{lineMatch};
 ghost use Rattle.shape.specs.Lent.{was};
 ghost use Rattle.shape.specs.Answers.{firstSays, accepted};
-ghost use Rattle.array_memory.specs.Memory.{Memory, withCells};
+ghost use Rattle.array_memory.specs.Memory.{Memory, withArray};
 ghost use Rattle.array_lookup.specs.Lookups.{firstRow, firstCall};
 
-// The first row whose cells all answer 1: on to the next row at the first cell that says no, and the end
-// at the first match.
-fn find_match(cells: &[u8], columns: usize, inputs: &[u8], rows: usize) -> First
-    requires { ⌜ (length (now inputs) ≤ columns) × (rows * columns ≤ length (now cells)) × (rows ≤ 4096) ⌝ }
+// The first row with a sound line whose cells all answer 1: on to the next row at a dead line and at the first cell that
+// says no, and the end at the first match.
+fn find_match(cells: &[u8], lines: &[u8], columns: usize, inputs: &[u8], rows: usize) -> First
+    requires { ⌜ (length (now inputs) ≤ columns) × (rows * columns ≤ length (now cells)) × (rows ≤ 4096) × (length (now lines) ≡ rows) ⌝ }
     ensures { λ r. ⌜ firstSays r
-        ≡ accepted (firstRow rows (λ i. matchByte (was inputs) (take (length (was inputs)) (drop (i * columns) (was cells))))) ⌝ }
+        ≡ accepted (firstRow rows (λ i. lineMatch (getD (was lines) i 0) (was inputs) (take (length (was inputs)) (drop (i * columns) (was cells))))) ⌝ }
 {
     let width = inputs.len();
     'rows: for i in 0..rows {
+        if lines[i] != 0 {
+            continue 'rows;
+        }
         let start = i * columns;
         for j in 0..width {
             if !answers(inputs[j], cells[start + j]) {
@@ -34,15 +37,15 @@ fn find_match(cells: &[u8], columns: usize, inputs: &[u8], rows: usize) -> First
 }
 
 // First match: the number of the first row that a task lookup of the inputs would match.
-pub fn first_match(shape: Shape, cells: &[u8], inputs: &[u8]) -> First
-    ensures { λ r. ⌜ ((mem : Memory) → firstCall shape (withCells (was cells) mem) (was inputs) ≡ firstSays r) ⌝ }
+pub fn first_match(shape: Shape, cells: &[u8], lines: &[u8], inputs: &[u8]) -> First
+    ensures { λ r. ⌜ ((mem : Memory) → firstCall shape (withArray (was cells) (was lines) mem) (was inputs) ≡ firstSays r) ⌝ }
 {
-    match check_lookup(shape, cells.len(), shape.rows, inputs) {
+    match check_lookup(shape, cells.len(), lines.len(), shape.rows, inputs) {
         Checked::Refused(number) => First::Refused(number),
         Checked::Taken(sizes) => {
             let columns = sizes.columns;
             let rows = shape.rows;
-            find_match(cells, columns, inputs, rows)
+            find_match(cells, lines, columns, inputs, rows)
         }
     }
 }

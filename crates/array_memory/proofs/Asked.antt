@@ -6,7 +6,7 @@ use Prim.Native.Nat.{ℕ, _+_, _*_, _≤_, _<_}
 use native.Mathlib.Omega.{arith}
 use lib.Dec.{ltb, lit<}
 use lib.ListN.{length}
-use borrow.Author.Tests.{eqb-true, ltb-true, eq-eqb, lt-ltb}
+use borrow.Author.Tests.{eqb-true, leb-true, ltb-true, eq-eqb, lt-ltb}
 use Rattle.parity.specs.Lists.{every}
 use Rattle.parity.specs.Shape.{levels, columns}
 use Rattle.parity.specs.Claims.{Below}
@@ -18,8 +18,9 @@ use Rattle.shape.specs.declared.sizes.Sizes.{Sizes}
 use Rattle.shape.specs.Shapes.{sizesOf}
 use Rattle.shape.proofs.Refusals.{first-none, taken-rest}
 use Rattle.array_memory.specs.Blocks.{blocks}
-use Rattle.array_memory.specs.Memory.{Memory, withCells, RowsSized, Sized, cellCount, cellsLength, flagsLengths, rowsQuestions, memoryQuestions}
-use Rattle.array_memory.specs.Questions.{cellsQuestions, rowArguments, programArguments, driftArguments}
+use Rattle.array_memory.specs.Memory.{Memory, withArray, RowsSized, Sized, cellCount, cellsLength, linesLength}
+use Rattle.array_memory.specs.Memory.{flagsLengths, rowsQuestions, memoryQuestions}
+use Rattle.array_memory.specs.Questions.{cellsQuestions, rowArguments, programArguments, driftArguments, lineArguments, lineQuestions}
 use Rattle.array_memory.proofs.RowPlaces.{row-fits, cells-high}
 
 -- ---- the cells
@@ -103,6 +104,27 @@ drift-reads s row column level e =
       below = levels-given s (level ∷ []) (three .0) 0 (omega arith);
     }
 
+-- what setting a line asks
+pub record Sets (s : Shape) (row byte : ℕ) : Type 0 where
+  pub place : row < s .rows
+  pub within : byte ≤ 1
+
+pub line-reads : (s : Shape) (row byte : ℕ) → firstNo (lineArguments s row byte) ≡ 0 → Sets s row byte
+line-reads s row byte e =
+    let one = first-yes _ _ 7 (lit< tt) e in
+    let two = first-yes _ 0 16 (lit< tt) (one .1) in
+    record { place = ltb-true row (s .rows) (one .0); within = leb-true byte 1 (two .0) }
+
+-- .. of lines that have their length
+pub lines-parts :
+    (s : Shape) (lines row byte : ℕ) → firstNo (lineQuestions s lines row byte) ≡ 0
+    → Taken s × (lines ≡ s .rows) × (firstNo (lineArguments s row byte) ≡ 0)
+unfolding shapeRefusal
+lines-parts s lines row byte none =
+    let parts = first-none (shapeQuestions s) (linesLength s lines ∷ lineArguments s row byte) refl none in
+    let one = first-yes _ _ 6 (lit< tt) (parts .1) in
+    (parts .0, eqb-true lines (s .rows) (one .0), one .1)
+
 -- ---- a row of cells that are taken, by the sizes in hand
 module _ {s : Shape} {cells : ℕ} (p : CellsTaken s cells) where
   pub cells-bound : cells ≤ 1044480
@@ -153,9 +175,9 @@ rows-taken s mem own none =
     let counters = eqb-true (length (mem .counters)) (s .rows) (three .0) in
     (record { taken = parts .0 .taken; sized = record { counters = counters; flags = parts .0 .flags; totals = parts .0 .totals } }, three .1)
 
--- cells that are written anew leave the buffers that go with the rows
-pub rows-kept : (s : Shape) (mem : Memory) → RowsSized s mem → (cells : List ℕ) → RowsSized s (withCells cells mem)
-rows-kept s mem z cells = record { counters = z .counters; flags = z .flags; totals = z .totals }
+-- cells and lines that are written anew leave the others
+pub rows-kept : (s : Shape) (mem : Memory) → RowsSized s mem → (cells lines : List ℕ) → RowsSized s (withArray cells lines mem)
+rows-kept s mem z cells lines = record { counters = z .counters; flags = z .flags; totals = z .totals }
 
 pub record MemoryTaken (s : Shape) (mem : Memory) : Type 0 where
   pub taken : Taken s
@@ -165,7 +187,9 @@ pub memory-taken :
     (s : Shape) (mem : Memory) (own : List Question) → firstNo (callQuestions s [] (memoryQuestions s mem) own) ≡ 0
     → MemoryTaken s mem × (firstNo own ≡ 0)
 memory-taken s mem own none =
-    let parts = rows-taken s mem (cellsLength s (length (mem .cells)) ∷ own) none in
+    let parts = rows-taken s mem (cellsLength s (length (mem .cells)) ∷ linesLength s (length (mem .lines)) ∷ own) none in
     let four = first-yes _ _ 6 (lit< tt) (parts .1) in
+    let five = first-yes _ _ 6 (lit< tt) (four .1) in
     let cells = eqb-true (length (mem .cells)) (cellCount s) (four .0) in
-    (record { taken = parts .0 .taken; sized = record { cells = cells; rows = parts .0 .sized } }, four .1)
+    let lines = eqb-true (length (mem .lines)) (s .rows) (five .0) in
+    (record { taken = parts .0 .taken; sized = record { cells = cells; lines = lines; rows = parts .0 .sized } }, five .1)

@@ -4,8 +4,8 @@ use mathlib.Core.List.{List, append-assoc}
 use Prim.Native.Nat.{ℕ, _+_, _-_, _*_, _≤_, _<_}
 use native.Mathlib.Nat.{mul-le-mul, mul-le-mul-right, suc-mul, add-sub-cancel-left}
 use native.Mathlib.Omega.{arith}
-use lib.ListN.{length, take, drop, length-drop}
-use lib.Seq.{drop-drop, length-take-le, take-take}
+use lib.ListN.{length, getD, take, drop, length-drop}
+use lib.Seq.{getD-take, getD-drop, drop-drop, length-take-le, take-take}
 use borrow.Rule.Slice.PartMut.{midOf, putMid}
 use Rattle.parity.specs.Shape.{columns}
 use Rattle.parity.specs.Questions.{Taken}
@@ -22,6 +22,11 @@ row-fits row m n h = omega (arith, mul-le-mul-right n h, suc-mul row n)
 -- m × n is far below what a number of the machine holds
 pub cells-high : (s : Shape) → Taken s → s .rows * columns s ≤ 1044480
 cells-high s t = mul-le-mul (limits s t .rowsHigh) (columns-high s t)
+
+-- cell j of row i
+pub row-cell : (s : Shape) (cells : List ℕ) (i j : ℕ) → j < columns s → getD (rowAt (columns s) cells i) j 0 ≡ getD cells (i * columns s + j) 0
+unfolding rowAt
+row-cell s cells i j h = rw (getD-take, getD-drop)
 
 -- ---- row i: how long it is, and the part of the cells that it is
 module _ (cells : List ℕ) (m n i : ℕ) where

@@ -1,9 +1,9 @@
--- Cells that lie row after row, n to a row; and the match bytes of m rows.
+-- Cells that lie row after row, n to a row; and the match bytes of m rows with their lines.
 use mathlib.Core.List.{List, _++_}
 use Prim.Native.Nat.{ℕ, suc, _*_}
-use lib.ListN.{take, drop}
+use lib.ListN.{getD, take, drop}
 use Rattle.parity.specs.Lists.{tabulate}
-use Rattle.parity.specs.Match.{matchByte}
+use Rattle.parity.specs.Match.{lineMatch}
 
 -- row i of the cells
 unfoldable pub rowAt : ℕ → List ℕ → ℕ → List ℕ
@@ -13,10 +13,10 @@ rowAt n cells i = take n (drop (i * n) cells)
 unfoldable pub withRow : ℕ → List ℕ → ℕ → List ℕ → List ℕ
 withRow n cells i row = take (i * n) cells ++ row ++ drop (suc i * n) cells
 
--- the match byte of row i for a vector of n inputs
-unfoldable pub rowMatch : ℕ → List ℕ → List ℕ → ℕ → ℕ
-rowMatch n vector cells i = matchByte vector (rowAt n cells i)
+-- the match byte of row i for a vector of n inputs, by its line and its cells
+unfoldable pub rowMatch : ℕ → List ℕ → List ℕ → List ℕ → ℕ → ℕ
+rowMatch n vector cells lines i = lineMatch (getD lines i 0) vector (rowAt n cells i)
 
 -- the match bytes of all m rows: one lookup
-unfoldable pub matchBytes : ℕ → ℕ → List ℕ → List ℕ → List ℕ
-matchBytes m n vector cells = tabulate m (rowMatch n vector cells)
+unfoldable pub matchBytes : ℕ → ℕ → List ℕ → List ℕ → List ℕ → List ℕ
+matchBytes m n vector cells lines = tabulate m (rowMatch n vector cells lines)

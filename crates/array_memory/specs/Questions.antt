@@ -1,11 +1,11 @@
--- The questions of the calls on the cells, in document 01's order.
+-- The questions of the calls on the cells and on the lines, in document 01's order.
 use mathlib.Core.List.{List, [], _∷_, _++_}
 use Prim.Native.Nat.{ℕ}
 use lib.ListN.{length}
 use Rattle.parity.specs.Shape.{columns}
-use Rattle.parity.specs.Questions.{Question, callQuestions, lengthQuestion, placeQuestion, levelsQuestion}
+use Rattle.parity.specs.Questions.{Question, callQuestions, lengthQuestion, placeQuestion, levelsQuestion, lineQuestion}
 use Rattle.parity.specs.declared.Shape.{Shape}
-use Rattle.array_memory.specs.Memory.{cellsLength}
+use Rattle.array_memory.specs.Memory.{cellsLength, linesLength}
 
 -- 1 to 5, 6 on the cells, and what else a call on the cells asks
 abbrev pub cellsQuestions : Shape → ℕ → List Question → List Question
@@ -14,6 +14,14 @@ cellsQuestions s cells own = callQuestions s [] (cellsLength s cells ∷ []) own
 -- what a drift asks of its arguments: 7 on the row and the column, 8 on the level
 abbrev pub driftArguments : Shape → ℕ → ℕ → ℕ → List Question
 driftArguments s row column level = placeQuestion row (s .rows) ∷ placeQuestion column (columns s) ∷ levelsQuestion s (level ∷ []) ∷ []
+
+-- what setting a line asks of its arguments: 7 on the row, 16 on the byte
+abbrev pub lineArguments : Shape → ℕ → ℕ → List Question
+lineArguments s row byte = placeQuestion row (s .rows) ∷ lineQuestion byte ∷ []
+
+-- 1 to 5, 6 on the lines, and those
+abbrev pub lineQuestions : Shape → ℕ → ℕ → ℕ → List Question
+lineQuestions s lines row byte = callQuestions s [] (linesLength s lines ∷ []) (lineArguments s row byte)
 
 -- what programming asks of its arguments: 6 on the levels' number, 7 on the row, 8 on the levels
 abbrev pub rowArguments : Shape → ℕ → ℕ → List Question

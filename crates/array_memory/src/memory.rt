@@ -70,17 +70,18 @@ pub fn check_rows(
     }
 }
 
-// The same, and 6 on the cells.
+// The same, and 6 on the cells and the lines.
 pub fn check_memory(
     asked: Checked,
     shape: Shape,
     cells: usize,
+    lines: usize,
     counters: usize,
     flags: usize,
     totals: usize,
 ) -> Checked
     requires { ⌜ TellsOf shape asked ⌝ }
-    ensures { λ r. ⌜ checkedSays r ≡ thenSays asked (memoryLengths shape cells counters flags totals) ⌝ }
+    ensures { λ r. ⌜ checkedSays r ≡ thenSays asked (memoryLengths shape cells lines counters flags totals) ⌝ }
 {
     match check_rows(asked, shape, counters, flags, totals) {
         Checked::Refused(number) => Checked::Refused(number),
@@ -88,6 +89,9 @@ pub fn check_memory(
             let rows = shape.rows;
             let columns = sizes.columns;
             if cells != rows * columns {
+                return Checked::Refused(6);
+            }
+            if lines != rows {
                 return Checked::Refused(6);
             }
             Checked::Taken(sizes)
@@ -100,15 +104,16 @@ pub fn check_matches(
     asked: Checked,
     shape: Shape,
     cells: usize,
+    lines: usize,
     counters: usize,
     flags: usize,
     totals: usize,
     matches: usize,
 ) -> Checked
     requires { ⌜ TellsOf shape asked ⌝ }
-    ensures { λ r. ⌜ checkedSays r ≡ thenSays asked (lookupLengths shape cells counters flags totals matches) ⌝ }
+    ensures { λ r. ⌜ checkedSays r ≡ thenSays asked (lookupLengths shape cells lines counters flags totals matches) ⌝ }
 {
-    match check_memory(asked, shape, cells, counters, flags, totals) {
+    match check_memory(asked, shape, cells, lines, counters, flags, totals) {
         Checked::Refused(number) => Checked::Refused(number),
         Checked::Taken(sizes) => {
             let rows = shape.rows;

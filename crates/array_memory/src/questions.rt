@@ -1,4 +1,4 @@
-// The questions of the calls on the cells: each function gives the shape's sizes, or the number of the first no.
+// The questions of the calls on the cells and on the lines: each function gives the shape's sizes, or the number of the first no.
 use acam::sound::all_below;
 use parity::Shape;
 use shape::byte::wide;
@@ -9,7 +9,7 @@ ghost use mathlib.Core.List.{[]};
 ghost use Rattle.parity.specs.Questions.{firstNo};
 ghost use Rattle.shape.specs.Lent.{was};
 ghost use Rattle.shape.specs.Shapes.{checkedSays, sizesIf};
-ghost use Rattle.array_memory.specs.Questions.{cellsQuestions, rowArguments, programArguments, driftArguments};
+ghost use Rattle.array_memory.specs.Questions.{cellsQuestions, rowArguments, programArguments, driftArguments, lineQuestions};
 
 // 1 to 5, and 6 on the cells.
 pub fn check_cells(shape: Shape, cells: usize) -> Checked
@@ -83,6 +83,28 @@ pub fn check_drift(shape: Shape, cells: usize, row: usize, column: usize, level:
             }
             if levels <= wide(level) {
                 return Checked::Refused(8);
+            }
+            Checked::Taken(sizes)
+        }
+    }
+}
+
+// 1 to 5, 6 on the lines, 7 on a row, 16 on a line byte.
+pub fn check_line(shape: Shape, lines: usize, row: usize, byte: u8) -> Checked
+    ensures { λ r. ⌜ checkedSays r ≡ sizesIf (firstNo (lineQuestions shape lines row byte)) shape ⌝ }
+{
+    match check_shape(shape) {
+        Checked::Refused(number) => Checked::Refused(number),
+        Checked::Taken(sizes) => {
+            let rows = shape.rows;
+            if lines != rows {
+                return Checked::Refused(6);
+            }
+            if rows <= row {
+                return Checked::Refused(7);
+            }
+            if 1 < byte {
+                return Checked::Refused(16);
             }
             Checked::Taken(sizes)
         }

@@ -9,8 +9,8 @@ use borrow.Author.Tests.{eq-eqb, lt-ltb}
 use Rattle.parity.specs.Questions.{Question, firstNo, Taken, callQuestions}
 use Rattle.parity.specs.declared.Shape.{Shape}
 use Rattle.shape.proofs.Refusals.{taken-rest}
-use Rattle.array_memory.specs.Memory.{Sized, cellsLength, rowsQuestions, memoryQuestions}
-use Rattle.array_memory.specs.Questions.{cellsQuestions}
+use Rattle.array_memory.specs.Memory.{Sized, cellsLength, linesLength, rowsQuestions, memoryQuestions}
+use Rattle.array_memory.specs.Questions.{cellsQuestions, lineArguments, lineQuestions}
 use Rattle.array_memory.proofs.Asked.{cells-rest}
 use Rattle.cycle.specs.Record.{cycleQuestion}
 use Rattle.cycle.specs.Calls.{State, clearQuestions, startArguments, startQuestions, stepArguments, lentQuestions, stepQuestions}
@@ -30,8 +30,8 @@ module _ (s : Shape) (t : Taken s) (st : State) (lent : Sized s (st .memory)) wh
 
   memory-rest : (own : List Question) → firstNo (memoryQuestions s (st .memory) ++ own) ≡ firstNo own
   memory-rest own =
-      let cells : List Question = cellsLength s (length (st .memory .cells)) ∷ own in
-      rows-rest cells ∙ rw (eq-eqb _ _ (lent .cells)) refl
+      let cells : List Question = cellsLength s (length (st .memory .cells)) ∷ linesLength s (length (st .memory .lines)) ∷ own in
+      rows-rest cells ∙ rw (eq-eqb _ _ (lent .cells), eq-eqb _ _ (lent .lines)) refl
 
   pub clear-asked : firstNo (clearQuestions s (st .memory)) ≡ 0
   clear-asked = taken-rest s t (memoryQuestions s (st .memory) ++ []) ∙ memory-rest []
@@ -45,6 +45,11 @@ module _ (s : Shape) (t : Taken s) (st : State) (lent : Sized s (st .memory)) wh
   -- a call on the cells
   pub cells-asked : (own : List Question) → firstNo (cellsQuestions s (length (st .memory .cells)) own) ≡ firstNo own
   cells-asked own = cells-rest s (length (st .memory .cells)) (record { taken = t; counted = lent .cells }) own
+
+  -- a line setting
+  pub line-asked : (row byte : ℕ) → firstNo (lineQuestions s (length (st .memory .lines)) row byte) ≡ firstNo (lineArguments s row byte)
+  line-asked row byte =
+      taken-rest s t (linesLength s (length (st .memory .lines)) ∷ lineArguments s row byte) ∙ rw (eq-eqb _ _ (lent .lines)) refl
 
   -- a call on the memory and match bytes
   pub lent-asked :

@@ -2,26 +2,20 @@
 -- question 9 takes. Assumes nothing.
 use mathlib.Core.Path.{_≡_, refl, sym, ap, _∙_}
 use mathlib.Core.Bool.{true, false, _&&_, and-eq-true-iff, false≢true}
-use Prim.Native.Nat.{ℕ, suc, _-_, _≤_, _<_}
-use native.Mathlib.Nat.{one-le-mul}
-use native.Mathlib.Omega.{arith}
+use Prim.Native.Nat.{ℕ, _≤_, _<_}
+use native.Mathlib.Nat.{zero-lt-suc}
 use lib.ListN.{length}
 use borrow.Author.Tests.{lt-ltb}
-use Rattle.parity.specs.Shape.{checks}
-use Rattle.parity.specs.Matrix.{matrixOnes, lookups}
+use Rattle.parity.specs.Matrix.{cycleSteps}
 use Rattle.parity.specs.Questions.{Taken}
 use Rattle.parity.specs.declared.Shape.{Shape}
-use Rattle.parity.proofs.Redundancy.{redundancyClaim}
 use Rattle.schedule.specs.Schedule.{schedule}
-use Rattle.schedule.specs.Index.{span}
-use Rattle.schedule.proofs.Support.{support-some}
-use Rattle.schedule.proofs.Length.{lengthClaim}
+use Rattle.schedule.proofs.Length.{schedule-length}
 use Rattle.cycle_place.specs.Places.{placeOf, entryAt, nextAt, isPlaceOf}
 use Rattle.cycle_place.specs.declared.walk.Next.{Next}
 use Rattle.cycle_place.specs.declared.walk.Next.the-variants as nexts
-use Rattle.cycle_place.proofs.Spans.{span-less}
 use Rattle.cycle_place.proofs.Places.{AtPlace, place-end, is-place, place-is, place-at}
-use Rattle.cycle.specs.Record.{openAt, completeAt, recordAt, cycleAt, isOpen, isNext}
+use Rattle.cycle.specs.Record.{noPlace, openAt, completeAt, recordAt, cycleAt, isOpen, isNext}
 use Rattle.cycle.specs.declared.Cycle.{Cycle}
 use Rattle.cycle.specs.declared.Phase.{Phase}
 use Rattle.cycle.specs.declared.Phase.the-variants.{Idle, Open, Complete}
@@ -30,16 +24,6 @@ pub open-phase : (p : Phase) → isOpen p ≡ true → p ≡ Open
 open-phase Idle e = absurd (false≢true e)
 open-phase Open e = refl
 open-phase Complete e = absurd (false≢true e)
-
--- a cycle has a lookup, so a start leaves an open record
-pub lookups-some : (z : ℕ) (s : Shape) → Taken s → z < s .digits → 0 < lookups z s
-unfolding lookups matrixOnes span
-lookups-some z s t h =
-    let less = span-less s t z h in
-    let last : ℕ = checks s - 1 in
-    let some : checks s ≡ suc last = omega (arith, redundancyClaim s t .low) in
-    one-le-mul (omega arith)
-    (rw some (omega (arith, support-some s t last (omega arith))))
 
 -- an idle record has no lookup to come
 pub next-idle : (s : Shape) (cycle : Cycle) → cycle .phase ≡ Idle → isNext s cycle ≡ false
@@ -88,39 +72,44 @@ module _ (z : ℕ) (s : Shape) where
       λ i. isOpen (at .phase i) && isPlaceOf (skip i) s (count i) (at .place i)
 
   module _ (t : Taken s) (c : ℕ) where
-    pub record-open : c < lookups z s → cycleAt z s c ≡ openAt z (placeOf (entryAt z s c)) c
+    pub record-open : c < cycleSteps z s → cycleAt z s c ≡ openAt z (placeOf (entryAt z s c)) c
     unfolding cycleAt nextAt
-    record-open h = rw (lt-ltb c (length (schedule z s)) (rw (lengthClaim z s t) h))
+    record-open h = rw (lt-ltb c (length (schedule z s)) (rw (schedule-length z s t) h))
 
-    pub record-complete : lookups z s ≤ c → cycleAt z s c ≡ completeAt z c
+    pub record-complete : cycleSteps z s ≤ c → cycleAt z s c ≡ completeAt z c
     unfolding cycleAt
     record-complete h = ap (λ next. recordAt z next c) (place-end z s t c h)
 
-    pub next-open : c < lookups z s → isNext s (cycleAt z s c) ≡ true
+    pub next-open : z < s .digits → c < cycleSteps z s → isNext s (cycleAt z s c) ≡ true
     unfolding isNext
-    next-open h = rw (record-open h) (is-place z s t c h)
+    next-open some h = rw (record-open h) (is-place z s t c some h)
 
-    pub next-complete : lookups z s ≤ c → isNext s (cycleAt z s c) ≡ false
+    pub next-complete : cycleSteps z s ≤ c → isNext s (cycleAt z s c) ≡ false
     unfolding isNext
     next-complete h = rw (record-complete h)
 
+-- the record of a start: its opening is next
+pub start-record : (z : ℕ) (s : Shape) → Taken s → cycleAt z s 0 ≡ openAt z noPlace 0
+unfolding entryAt schedule
+start-record z s t = record-open z s t 0 (zero-lt-suc _)
+
 pub next-record :
     (s : Shape) → Taken s → (cycle : Cycle) → isNext s cycle ≡ true
-    → (cycle .count < lookups (cycle .skip) s) × (cycle ≡ cycleAt (cycle .skip) s (cycle .count))
+    → (cycle .skip < s .digits) × (cycle .count < cycleSteps (cycle .skip) s) × (cycle ≡ cycleAt (cycle .skip) s (cycle .count))
 unfolding isNext
 next-record s t cycle e =
     let z : ℕ = cycle .skip in
     let both = and-eq-true-iff (isOpen (cycle .phase)) (isPlaceOf z s (cycle .count) (cycle .place)) .0 e in
-    let (lt, place) = place-is z s t (cycle .count) (cycle .place) (both .1) in
+    let (some, lt, place) = place-is z s t (cycle .count) (cycle .place) (both .1) in
     let phase = open-phase (cycle .phase) (both .0) in
-    (lt, (λ i. record { phase = phase i; place = place i; count = cycle .count; skip = z }) ∙ sym (record-open z s t (cycle .count) lt))
+    (some, lt, (λ i. record { phase = phase i; place = place i; count = cycle .count; skip = z }) ∙ sym (record-open z s t (cycle .count) lt))
 
--- .. and what question 9 takes is open and stands at a place of its count
+-- .. and what question 9 takes is open and, after the opening, stands at the place of a test that has its count
 module _ (s : Shape) (t : Taken s) (cycle : Cycle) where
   pub next-phase : isNext s cycle ≡ true → cycle .phase ≡ Open
   unfolding isNext
   next-phase e = open-phase (cycle .phase) (and-eq-true-iff (isOpen (cycle .phase)) _ .0 e .0)
 
-  pub next-place : isNext s cycle ≡ true → AtPlace (cycle .skip) s (cycle .count) (cycle .place)
+  pub next-place : 0 < cycle .count → isNext s cycle ≡ true → AtPlace (cycle .skip) s (cycle .count) (cycle .place)
   unfolding isNext
-  next-place e = place-at (cycle .skip) s t (cycle .count) (cycle .place) (and-eq-true-iff (isOpen (cycle .phase)) _ .0 e .1)
+  next-place low e = place-at (cycle .skip) s t (cycle .count) low (cycle .place) (and-eq-true-iff (isOpen (cycle .phase)) _ .0 e .1)

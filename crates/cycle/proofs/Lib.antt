@@ -2,7 +2,6 @@
 pub mod Asked
 pub mod CycleRecord
 pub mod Steps
-pub mod StepPasses
 pub mod Given
 pub mod MatrixPart
 pub mod Runs

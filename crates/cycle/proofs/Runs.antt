@@ -7,7 +7,7 @@ use native.Mathlib.Numerals.{add-one}
 use Rattle.parity.specs.Lists.{joined}
 use Rattle.parity.specs.declared.Shape.{Shape}
 use Rattle.cycle.specs.Calls.{State, stateOf, fresh}
-use Rattle.cycle.specs.Run.{Call, clear, start, program, drift, lookup, step, after, followed, runFrom, run}
+use Rattle.cycle.specs.Run.{Call, clear, start, program, drift, line, lookup, step, after, followed, runFrom, run}
 use Rattle.cycle.specs.Claims.{Leaves, Follows, FollowClaim, KeepClaim}
 
 -- the induction over lists, for what holds of two things that follow the same calls
@@ -38,6 +38,7 @@ leaves-after s st clear next (r, e, same) = ap (λ r. r .state) e ∙ same
 leaves-after s st (start z) next (r, e, same) = ap (λ r. r .state) e ∙ same
 leaves-after s st (program row given) next (r, e, same) = ap (λ r. r .state) e ∙ same
 leaves-after s st (drift row column level) next (r, e, same) = ap (λ r. stateOf (r .state) (st .cycle)) e ∙ same
+leaves-after s st (line row byte) next (r, e, same) = ap (λ r. stateOf (r .state) (st .cycle)) e ∙ same
 leaves-after s st (lookup inputs matches) next (r, e, same) = ap (λ r. stateOf (r .state) (st .cycle)) e ∙ same
 leaves-after s st (step matches) next (r, e, same) = ap (λ r. r .state) e ∙ same
 

@@ -1,4 +1,4 @@
--- What start and step do to a state with buffers of their lengths: to the record, and to the lines of the rows. Assumes nothing.
+-- What start and step do to a state with buffers of their lengths: to the record, and to the tallies of the rows. Assumes nothing.
 use mathlib.Core.Path.{_≡_, refl, sym, ap, ap₂, _∙_}
 use mathlib.Core.Bool.{Bool, true, false, cond, _&&_}
 use mathlib.Core.List.{List, []}
@@ -9,37 +9,39 @@ use lib.ListN.{length, getD, take, replicate, length-replicate, getD-replicate}
 use lib.Seq.{take-all}
 use borrow.Author.Tests.{lt-ltb}
 use Rattle.parity.specs.Shape.{levels, columns}
-use Rattle.parity.specs.Matrix.{lookups}
+use Rattle.parity.specs.Matrix.{cycleSteps}
 use Rattle.parity.specs.Claims.{Below}
 use Rattle.parity.specs.Questions.{Taken}
 use Rattle.parity.specs.declared.Shape.{Shape}
 use Rattle.parity.proofs.ListLaws.{length-tabulate, getD-tabulate}
 use Rattle.schedule.specs.Schedule.{within, schedule}
 use Rattle.schedule.specs.Coarse.{isBalancedFrom}
-use Rattle.schedule.specs.Line.{Line, lineStep, lineRun, freshLine}
-use Rattle.schedule.proofs.Length.{lengthClaim}
+use Rattle.schedule.specs.Tally.{Tally, tallyStep, tallyRun, freshTally}
+use Rattle.schedule.proofs.Length.{schedule-length}
 use Rattle.schedule.proofs.Flags.{flag-test}
-use Rattle.schedule.proofs.Runs.{lineRun-take}
-use Rattle.schedule.proofs.Digit.{line}
+use Rattle.schedule.proofs.Runs.{tallyRun-take}
+use Rattle.schedule.proofs.Digit.{tally}
 use Rattle.parity.specs.Questions.{ifTaken}
 use Rattle.shape.specs.Answers.{accepted, refused, giving, calling}
 use Rattle.array_memory.specs.Geometry.{rowAt, rowMatch, matchBytes}
 use Rattle.array_memory.specs.Blocks.{blocksOf, blocks, blockTotals}
-use Rattle.array_memory.specs.Memory.{Memory, withCells, noMemory, RowsSized, Sized, cellCount}
+use Rattle.array_memory.specs.Memory.{Memory, withArray, noMemory, RowsSized, Sized, cellCount}
 use Rattle.cycle_place.specs.Places.{entryAt}
+use Rattle.cycle_lookup.specs.Lookup.{entryMatches, countedRows, flaggedRows, totalledBlocks, resetRows, lookedUp}
 use Rattle.cycle.specs.Record.{nextEntry, cycleAt, isNext}
-use Rattle.cycle.specs.Calls.{State, zeroRows, cleared, fresh, started, startCall, countedRows, flaggedRows, resetRows, stepMatches}
-use Rattle.cycle.specs.Calls.{totalledBlocks, steppedMemory, stepped, stepCall}
+use Rattle.cycle.specs.Calls.{State, zeroRows, cleared, fresh, started, startCall, stepMatches, steppedMemory, stepped, stepCall}
 use Rattle.cycle.specs.Run.{start, step, after}
 use Rattle.cycle.proofs.Asked.{start-asked, step-asked}
 
--- the line of row i
-abbrev pub lineAt : State → ℕ → Line
-lineAt st i = line (getD (st .memory .counters) i 0) (getD (st .memory .flags) i 0)
+-- the tally of row i
+abbrev pub tallyAt : State → ℕ → Tally
+tallyAt st i = tally (getD (st .memory .counters) i 0) (getD (st .memory .flags) i 0)
 
--- each row's line is that of the first c lookups of the schedule
-abbrev pub Lines : ℕ → Shape → State → ℕ → Type 0
-Lines z s st c = (i : ℕ) → i < s .rows → lineAt st i ≡ lineRun s (rowAt (columns s) (st .memory .cells) i) (take c (schedule z s)) freshLine
+-- each row's tally is that of the first c lookups of the schedule
+abbrev pub Tallies : ℕ → Shape → State → ℕ → Type 0
+Tallies z s st c =
+    (i : ℕ) → i < s .rows
+    → tallyAt st i ≡ tallyRun s (getD (st .memory .lines) i 0) (rowAt (columns s) (st .memory .cells) i) (take c (schedule z s)) freshTally
 
 -- buffers of zeros have their lengths
 zero-sized : (s : Shape) (mem : Memory) → RowsSized s (zeroRows s mem)
@@ -48,37 +50,40 @@ zero-sized s mem =
     record { counters = length-replicate (s .rows) 0; flags = length-replicate (s .rows) 0; totals = length-replicate (blocks s) 0 }
 
 module _ (s : Shape) (st : State) where
-  pub started-lines : (z : ℕ) → Lines z s (started s st z) 0
+  pub started-tallies : (z : ℕ) → Tallies z s (started s st z) 0
   unfolding started zeroRows
-  started-lines z i h = ap₂ line (getD-replicate (s .rows) i 0 0 h) (getD-replicate (s .rows) i 0 0 h)
+  started-tallies z i h = ap₂ tally (getD-replicate (s .rows) i 0 0 h) (getD-replicate (s .rows) i 0 0 h)
 
-  -- the three passes of a step, seen in one row
-  stepped-line :
+  -- the passes of a step, seen in one row
+  stepped-tally :
       (i : ℕ) → i < s .rows
-      → lineAt (stepped s st) i ≡ lineStep s (rowAt (columns s) (st .memory .cells) i) (nextEntry s (st .cycle)) (lineAt st i)
-  unfolding stepped steppedMemory lineStep resetRows flaggedRows countedRows stepMatches matchBytes rowMatch
-  stepped-line i h = simp getD-tabulate
+      → tallyAt (stepped s st) i
+      ≡ tallyStep s (getD (st .memory .lines) i 0) (rowAt (columns s) (st .memory .cells) i) (nextEntry s (st .cycle)) (tallyAt st i)
+  unfolding stepped steppedMemory lookedUp tallyStep resetRows flaggedRows countedRows entryMatches matchBytes rowMatch
+  stepped-tally i h = simp getD-tabulate
 
-  pub stepped-lines :
-      Taken s → (z c : ℕ) → c < lookups z s → st .cycle .skip ≡ z → st .cycle .count ≡ c → Lines z s st c → Lines z s (stepped s st) (suc c)
-  unfolding stepped steppedMemory entryAt
-  stepped-lines t z c h own e lines i l =
+  pub stepped-tallies :
+      Taken s → (z c : ℕ) → c < cycleSteps z s → st .cycle .skip ≡ z → st .cycle .count ≡ c → Tallies z s st c → Tallies z s (stepped s st) (suc c)
+  unfolding stepped steppedMemory lookedUp entryAt
+  stepped-tallies t z c h own e tallies i l =
+      let line : ℕ = getD (st .memory .lines) i 0 in
       let row : List ℕ = rowAt (columns s) (st .memory .cells) i in
-      stepped-line i l
-      ∙ (λ k. lineStep s row (entryAt (own k) s (e k)) (lines i l k))
-      ∙ sym (lineRun-take s row (schedule z s) c (rw (lengthClaim z s t) h) (within 0 0 0 0) freshLine)
+      stepped-tally i l
+      ∙ (λ k. tallyStep s line row (entryAt (own k) s (e k)) (tallies i l k))
+      ∙ sym (tallyRun-take s line row (schedule z s) c (rw (schedule-length z s t) h) (within 0 0 0 0) freshTally)
 
-  -- after the whole schedule a row's flag says whether its digit sums from z on are 0
-  pub lines-ended :
-      Taken s → (z : ℕ) → Lines z s st (lookups z s) → (i : ℕ) → i < s .rows → length (rowAt (columns s) (st .memory .cells) i) ≡ columns s
+  -- after the whole schedule a row's flag says whether its line is sound and its digit sums from z on are 0
+  pub tallies-ended :
+      Taken s → (z : ℕ) → Tallies z s st (cycleSteps z s) → (i : ℕ) → i < s .rows → length (rowAt (columns s) (st .memory .cells) i) ≡ columns s
       → Below (levels s) (columns s) (rowAt (columns s) (st .memory .cells) i)
-      → getD (st .memory .flags) i 0 ≡ cond (isBalancedFrom z s (rowAt (columns s) (st .memory .cells) i)) 0 1
-  lines-ended t z lines i h sized below =
+      → getD (st .memory .flags) i 0 ≡ cond (eqb (getD (st .memory .lines) i 0) 0 && isBalancedFrom z s (rowAt (columns s) (st .memory .cells) i)) 0 1
+  tallies-ended t z tallies i h sized below =
+      let line : ℕ = getD (st .memory .lines) i 0 in
       let row : List ℕ = rowAt (columns s) (st .memory .cells) i in
       ap (λ l. l .flag)
-      (lines i h
-      ∙ ap (λ es. lineRun s row es freshLine) (take-all (lookups z s) (schedule z s) (omega (arith, lengthClaim z s t)))
-      ∙ flag-test z s t row sized below)
+      (tallies i h
+      ∙ ap (λ es. tallyRun s line row es freshTally) (take-all (cycleSteps z s) (schedule z s) (omega (arith, schedule-length z s t)))
+      ∙ flag-test z s t row sized below line)
 
   pub stepped-cycle : (z c : ℕ) → st .cycle .skip ≡ z → st .cycle .count ≡ c → stepped s st .cycle ≡ cycleAt z s (suc c)
   unfolding stepped
@@ -87,7 +92,7 @@ module _ (s : Shape) (st : State) where
   module _ (lent : Sized s (st .memory)) where
     pub started-sized : (z : ℕ) → Sized s (started s st z .memory)
     unfolding started zeroRows
-    started-sized z = record { cells = lent .cells; rows = zero-sized s (st .memory) }
+    started-sized z = record { cells = lent .cells; lines = lent .lines; rows = zero-sized s (st .memory) }
 
     -- the totals are counted anew, or left
     totalled-length : (flags : List ℕ) → length flags ≡ s .rows → (b : Bool) → length (cond b (blockTotals flags) (st .memory .totals)) ≡ blocks s
@@ -96,10 +101,11 @@ module _ (s : Shape) (st : State) where
     totalled-length flags sized false = lent .rows .totals
 
     pub stepped-sized : Sized s (stepped s st .memory)
-    unfolding stepped steppedMemory resetRows flaggedRows totalledBlocks
+    unfolding stepped steppedMemory lookedUp resetRows flaggedRows totalledBlocks
     stepped-sized =
         record {
           cells = lent .cells;
+          lines = lent .lines;
           rows =
               record {
                 counters = length-tabulate (s .rows) _;
@@ -142,4 +148,9 @@ module _ (s : Shape) (st : State) where
 -- the fresh array has buffers of their lengths
 pub fresh-sized : (s : Shape) → Sized s (fresh s .memory)
 unfolding fresh cleared zeroRows
-fresh-sized s = record { cells = length-replicate (cellCount s) 0; rows = zero-sized s (withCells (replicate (cellCount s) 0) noMemory) }
+fresh-sized s =
+    record {
+      cells = length-replicate (cellCount s) 0;
+      lines = length-replicate (s .rows) 0;
+      rows = zero-sized s (withArray (replicate (cellCount s) 0) (replicate (s .rows) 0) noMemory);
+    }

@@ -1,20 +1,15 @@
 -- Document 01, "Calls on one array": each call that has the cycle record as one definition that gives all of its result, taken or refused.
-use mathlib.Core.Bool.{cond}
 use mathlib.Core.List.{List, [], _∷_, _++_}
 use Prim.Native.Nat.{ℕ, suc}
-use lib.ListN.{length, getD, replicate}
-use Rattle.parity.specs.Lists.{tabulate}
-use Rattle.parity.specs.Shape.{columns}
+use lib.ListN.{length, replicate}
 use Rattle.parity.specs.Questions.{Question, callQuestions, skipQuestion, lengthQuestion}
 use Rattle.parity.specs.declared.Shape.{Shape}
 use Rattle.shape.specs.Answers.{Result, accepted, giving, calling}
-use Rattle.schedule.specs.Schedule.{Entry, testVector}
-use Rattle.schedule.specs.Line.{counted, flagged, reset}
-use Rattle.array_memory.specs.Blocks.{blocks, blockTotals}
-use Rattle.array_memory.specs.Geometry.{matchBytes}
-use Rattle.array_memory.specs.Memory.{Memory, withCells, withRows, noMemory, cellCount, rowsQuestions, memoryQuestions}
+use Rattle.array_memory.specs.Blocks.{blocks}
+use Rattle.array_memory.specs.Memory.{Memory, withArray, withRows, noMemory, cellCount, rowsQuestions, memoryQuestions}
 use Rattle.array_memory.specs.Questions.{cellsQuestions, programArguments}
 use Rattle.array.specs.Calls.{programmed}
+use Rattle.cycle_lookup.specs.Lookup.{entryMatches, lookedUp}
 use Rattle.cycle.specs.Record.{idle, nextEntry, cycleAt, cycleQuestion}
 use Rattle.cycle.specs.declared.Cycle.{Cycle}
 
@@ -32,15 +27,15 @@ stateOf memory cycle = record { memory = memory; cycle = cycle }
 unfoldable pub zeroRows : Shape → Memory → Memory
 zeroRows s mem = withRows (replicate (s .rows) 0) (replicate (s .rows) 0) (replicate (blocks s) 0) mem
 
--- cells too
+-- cells and lines too
 unfoldable pub cleared : Shape → Memory → Memory
-cleared s mem = withCells (replicate (cellCount s) 0) (zeroRows s mem)
+cleared s mem = withArray (replicate (cellCount s) 0) (replicate (s .rows) 0) (zeroRows s mem)
 
 -- 6 on the whole memory
 abbrev pub clearQuestions : Shape → Memory → List Question
 clearQuestions s mem = callQuestions s [] (memoryQuestions s mem) []
 
--- cells, counters, flags and totals all 0, record idle with count 0
+-- cells, lines, counters, flags and totals all 0, record idle with count 0
 unfoldable pub clearCall : Shape → State → Result State
 clearCall s st = calling (clearQuestions s (st .memory)) [] st (giving (accepted 0) [] (stateOf (cleared s (st .memory)) idle))
 
@@ -66,7 +61,7 @@ startArguments s z = skipQuestion s z ∷ []
 abbrev pub startQuestions : Shape → Memory → ℕ → List Question
 startQuestions s mem z = callQuestions s (startArguments s z) (rowsQuestions s mem) []
 
--- counters, flags and totals 0, record open, count 0, also when a cycle was open
+-- counters, flags and totals 0, record open, count 0, its opening next, also when a cycle was open
 unfoldable pub started : Shape → State → ℕ → State
 started s st z = stateOf (zeroRows s (st .memory)) (cycleAt z s 0)
 
@@ -87,33 +82,13 @@ lentQuestions s mem matches = memoryQuestions s mem ++ stepArguments s matches
 abbrev pub stepQuestions : Shape → State → List ℕ → List Question
 stepQuestions s st matches = callQuestions s [] (lentQuestions s (st .memory) matches) (cycleQuestion s (st .cycle) ∷ [])
 
--- The passes of a step over the rows. Each match byte is added to its row's counter mod ρ, any byte found there by its remainder ..
-unfoldable pub countedRows : Shape → List ℕ → List ℕ → List ℕ
-countedRows s counters matches = tabulate (s .rows) (λ i. counted (s .radix) (getD counters i 0) (getD matches i 0))
-
--- .. at the end of each s rows whose counter isn't 0 are flagged ..
-unfoldable pub flaggedRows : Shape → Entry → List ℕ → List ℕ → List ℕ
-flaggedRows s e counters flags = tabulate (s .rows) (λ i. flagged e (getD counters i 0) (getD flags i 0))
-
--- .. where rows are flagged, each block's flagged rows are counted anew ..
-unfoldable pub totalledBlocks : Entry → List ℕ → List ℕ → List ℕ
-totalledBlocks e flags totals = cond (e .flags) (blockTotals flags) totals
-
--- .. and counters return to 0 after the last s of an ℓ.
-unfoldable pub resetRows : Shape → Entry → List ℕ → List ℕ
-resetRows s e counters = tabulate (s .rows) (λ i. reset e (getD counters i 0))
-
 -- the match bytes of the entry that the record stands at
 unfoldable pub stepMatches : Shape → State → List ℕ
-stepMatches s st = matchBytes (s .rows) (columns s) (testVector s (nextEntry s (st .cycle))) (st .memory .cells)
+stepMatches s st = entryMatches s (nextEntry s (st .cycle)) (st .memory)
 
--- the memory after that entry's lookup is made and counted
+-- the memory after that entry's lookup
 unfoldable pub steppedMemory : Shape → State → Memory
-steppedMemory s st =
-    let e = nextEntry s (st .cycle) in
-    let counters = countedRows s (st .memory .counters) (stepMatches s st) in
-    let flags = flaggedRows s e counters (st .memory .flags) in
-    withRows (resetRows s e counters) flags (totalledBlocks e flags (st .memory .totals)) (st .memory)
+steppedMemory s st = lookedUp s (nextEntry s (st .cycle)) (st .memory)
 
 -- the next lookup of the schedule is made and counted; after the last one the record is complete
 unfoldable pub stepped : Shape → State → State

@@ -4,10 +4,10 @@ use mathlib.Core.List.{List, [], _∷_}
 use Rattle.parity.specs.declared.Shape.{Shape}
 use Rattle.shape.specs.Answers.{Result}
 use Rattle.array_memory.specs.Memory.{Memory}
-use Rattle.array.specs.Calls.{driftCall}
+use Rattle.array.specs.Calls.{driftCall, lineCall}
 use Rattle.array_lookup.specs.Lookups.{lookupCall}
 use Rattle.cycle.specs.Calls.{State, stateOf, fresh, clearCall, programCall, startCall, stepCall}
-use Rattle.cycle.specs.Run.{Call, clear, start, program, drift, lookup, step, after, run}
+use Rattle.cycle.specs.Run.{Call, clear, start, program, drift, line, lookup, step, after, run}
 
 -- the state that a call leaves, by the equation of its own contract: all that its definition gives is some result, and that result has the state
 abbrev pub Leaves : Shape → State → Call → State → Type 0
@@ -16,6 +16,8 @@ Leaves s st (start z) next = (r : Result State) × (startCall s st z ≡ r) × (
 Leaves s st (program row given) next = (r : Result State) × (programCall s st row given ≡ r) × (r .state ≡ next)
 Leaves s st (drift row column level) next =
     (r : Result Memory) × (driftCall s (st .memory) row column level ≡ r) × (stateOf (r .state) (st .cycle) ≡ next)
+Leaves s st (line row byte) next =
+    (r : Result Memory) × (lineCall s (st .memory) row byte ≡ r) × (stateOf (r .state) (st .cycle) ≡ next)
 Leaves s st (lookup inputs matches) next =
     (r : Result Memory) × (lookupCall s (st .memory) inputs matches ≡ r) × (stateOf (r .state) (st .cycle) ≡ next)
 Leaves s st (step matches) next = (r : Result State) × (stepCall s st matches ≡ r) × (r .state ≡ next)

@@ -12,7 +12,7 @@ use Rattle.cycle.specs.declared.Cycle.{Cycle}
 use Rattle.cycle.specs.declared.Phase.{Phase}
 use Rattle.cycle.specs.declared.Phase.the-variants.{Idle, Open, Complete}
 
--- no place: no lookup is to come
+-- the place that is all 0: the opening's, and that of a record with no lookup to come
 abbrev pub noPlace : Place
 noPlace = placeAt 0 0 0 0
 
@@ -47,8 +47,8 @@ isOpen Idle = false
 isOpen Open = true
 isOpen Complete = false
 
--- 9: is the record one that a start and accepted steps on this shape leave, with a vector still to come? It is the one with its own z and its own
--- count. A start takes no z of b or more, and no vector is to come there: the schedule is empty.
+-- 9: is the record one that a start and accepted steps on this shape leave, with a vector still to come? It is the one with its own z, which is
+-- below b, since a start takes no other, and with its own count.
 unfoldable pub isNext : Shape → Cycle → Bool
 isNext s cycle = isOpen (cycle .phase) && isPlaceOf (cycle .skip) s (cycle .count) (cycle .place)
 

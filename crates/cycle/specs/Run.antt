@@ -1,12 +1,13 @@
--- Document 01, "The lists of demand 3": calls as data, and a list of them run from the fresh array by the calls' own definitions.
+-- Document 01, "The lists of demand 3", with the line call of document 02's Card 4: calls as data, and a list of them run from the fresh array by the calls' own definitions.
 use mathlib.Core.List.{List, [], _∷_}
 use Prim.Native.Nat.{ℕ}
 use Rattle.parity.specs.declared.Shape.{Shape}
-use Rattle.array.specs.Calls.{driftCall}
+use Rattle.array.specs.Calls.{driftCall, lineCall}
 use Rattle.array_lookup.specs.Lookups.{lookupCall}
 use Rattle.cycle.specs.Calls.{State, stateOf, fresh, clearCall, programCall, startCall, stepCall}
 
--- A call with its arguments: numbers of digits, rows and columns, levels, inputs and the buffer for match bytes, of any length and contents.
+-- A call with its arguments: numbers of digits, rows and columns, levels, a line byte, inputs and the buffer for match bytes, of any length and
+-- contents.
 pub data Call : Type 0 where
   clear : Call
   -- the number of digits to skip
@@ -15,6 +16,8 @@ pub data Call : Type 0 where
   program : ℕ → List ℕ → Call
   -- a row's number, a column's and a level
   drift : ℕ → ℕ → ℕ → Call
+  -- a row's number and a line byte
+  line : ℕ → ℕ → Call
   -- inputs and the buffer for match bytes
   lookup : List ℕ → List ℕ → Call
   -- the buffer for match bytes
@@ -26,6 +29,7 @@ after s st clear = clearCall s st .state
 after s st (start z) = startCall s st z .state
 after s st (program row given) = programCall s st row given .state
 after s st (drift row column level) = stateOf (driftCall s (st .memory) row column level .state) (st .cycle)
+after s st (line row byte) = stateOf (lineCall s (st .memory) row byte .state) (st .cycle)
 after s st (lookup inputs matches) = stateOf (lookupCall s (st .memory) inputs matches .state) (st .cycle)
 after s st (step matches) = stepCall s st matches .state
 

@@ -2,7 +2,6 @@
 // given and leaves every buffer as it was.
 use super::Changed;
 use super::Cycle;
-use super::passes::look_and_count;
 use acam::matrix::matrix_of;
 use array::change::write_row;
 use array_memory::memory::check_matches;
@@ -10,8 +9,11 @@ use array_memory::memory::check_memory;
 use array_memory::memory::check_rows;
 use array_memory::memory::check_skip;
 use array_memory::questions::check_program;
+use cycle_lookup::opening::make_opening;
+use cycle_lookup::tests::make_test;
 use cycle_passes::rows::reset_rows;
 use cycle_place::walk::Located;
+use cycle_place::walk::Next;
 use cycle_place::walk::advance;
 use cycle_place::walk::first;
 use parity::Shape;
@@ -49,22 +51,24 @@ pub fn done(cycle: Cycle) -> Changed
 }
 
 impl Cycle {
-    // Clear: cells, counters, flags and totals all 0, record idle: the fresh array.
+    // Clear: cells, lines, counters, flags and totals all 0, record idle: the fresh array.
     pub fn clear(
         self,
         shape: Shape,
         cells: &mut [u8],
+        lines: &mut [u8],
         counters: &mut [u8],
         flags: &mut [u8],
         totals: &mut [u8],
     ) -> Changed
-        ensures { λ r. ⌜ ((mem : Memory) → clearCall shape (stateOf (withAll (was cells) (was counters) (was flags) (was totals) mem) self)
-            ≡ changing r [] (withAll (left cells) (left counters) (left flags) (left totals) mem)) ⌝ }
+        ensures { λ r. ⌜ ((mem : Memory) → clearCall shape (stateOf (withAll (was cells) (was lines) (was counters) (was flags) (was totals) mem) self)
+            ≡ changing r [] (withAll (left cells) (left lines) (left counters) (left flags) (left totals) mem)) ⌝ }
     {
         match check_memory(
             check_shape(shape),
             shape,
             cells.len(),
+            lines.len(),
             counters.len(),
             flags.len(),
             totals.len(),
@@ -72,6 +76,7 @@ impl Cycle {
             Checked::Refused(number) => refused(self, number),
             Checked::Taken(_) => {
                 fill(cells, 0);
+                fill(lines, 0);
                 reset_rows(counters, flags, totals);
                 done(Cycle::IDLE)
             }
@@ -92,8 +97,8 @@ impl Cycle {
         }
     }
 
-    // Start: counters, flags and totals 0, record open, also when a cycle was open. The cycle skips a number of low digits:
-    // 0 for the whole cycle.
+    // Start: counters, flags and totals 0, record open, its opening next, also when a cycle was open. The cycle skips a number
+    // of low digits: 0 for the whole cycle.
     pub fn start(
         self,
         shape: Shape,
@@ -113,34 +118,33 @@ impl Cycle {
             totals.len(),
         ) {
             Checked::Refused(number) => refused(self, number),
-            Checked::Taken(sizes) => {
-                let columns = sizes.columns;
-                let checks = sizes.checks;
+            Checked::Taken(_) => {
                 reset_rows(counters, flags, totals);
-                let matrix = matrix_of(shape, checks);
-                done(Cycle::open(skip, first(shape, &matrix[..columns]), 0))
+                done(Cycle::opening(skip))
             }
         }
     }
 
-    // Step: makes the next lookup of the schedule and counts its matches; where it looks for rows to flag, the blocks'
+    // Step: makes the next lookup of the schedule, the opening or a test; where it looks for rows to flag, the blocks'
     // totals are counted anew; after the last lookup the record is complete.
     pub fn step(
         self,
         shape: Shape,
         cells: &[u8],
+        lines: &[u8],
         counters: &mut [u8],
         flags: &mut [u8],
         totals: &mut [u8],
         matches: &mut [u8],
     ) -> Changed
-        ensures { λ r. ⌜ ((mem : Memory) → stepCall shape (stateOf (withAll (was cells) (was counters) (was flags) (was totals) mem) self) (was matches)
-            ≡ changing r (left matches) (withAll (was cells) (left counters) (left flags) (left totals) mem)) ⌝ }
+        ensures { λ r. ⌜ ((mem : Memory) → stepCall shape (stateOf (withAll (was cells) (was lines) (was counters) (was flags) (was totals) mem) self) (was matches)
+            ≡ changing r (left matches) (withAll (was cells) (was lines) (left counters) (left flags) (left totals) mem)) ⌝ }
     {
         match check_matches(
             check_shape(shape),
             shape,
             cells.len(),
+            lines.len(),
             counters.len(),
             flags.len(),
             totals.len(),
@@ -148,7 +152,7 @@ impl Cycle {
         ) {
             Checked::Refused(number) => refused(self, number),
             Checked::Taken(sizes) => {
-                self.step_lent(shape, sizes, cells, counters, flags, totals, matches)
+                self.step_lent(shape, sizes, cells, lines, counters, flags, totals, matches)
             }
         }
     }
@@ -159,15 +163,16 @@ impl Cycle {
         shape: Shape,
         sizes: Sizes,
         cells: &[u8],
+        lines: &[u8],
         counters: &mut [u8],
         flags: &mut [u8],
         totals: &mut [u8],
         matches: &mut [u8],
     ) -> Changed
         requires { ⌜ (firstNo (callQuestions shape []
-            (lentQuestions shape (withAll (now cells) (now counters) (now flags) (now totals) noMemory) (now matches)) []) ≡ 0) × (sizes ≡ sizesOf shape) ⌝ }
-        ensures { λ r. ⌜ ((mem : Memory) → stepCall shape (stateOf (withAll (was cells) (was counters) (was flags) (was totals) mem) self) (was matches)
-            ≡ changing r (left matches) (withAll (was cells) (left counters) (left flags) (left totals) mem)) ⌝ }
+            (lentQuestions shape (withAll (now cells) (now lines) (now counters) (now flags) (now totals) noMemory) (now matches)) []) ≡ 0) × (sizes ≡ sizesOf shape) ⌝ }
+        ensures { λ r. ⌜ ((mem : Memory) → stepCall shape (stateOf (withAll (was cells) (was lines) (was counters) (was flags) (was totals) mem) self) (was matches)
+            ≡ changing r (left matches) (withAll (was cells) (was lines) (left counters) (left flags) (left totals) mem)) ⌝ }
     {
         let columns = sizes.columns;
         let checks = sizes.checks;
@@ -175,16 +180,23 @@ impl Cycle {
         let part = &matrix[..columns];
         match self.locate(shape, sizes, part) {
             Located::Elsewhere => refused(self, 9),
+            Located::Opening => {
+                let next = self.moved(Next::Place(first(shape, part)));
+                make_opening(lines, flags, totals, matches);
+                done(next)
+            }
             Located::At(standing) => {
                 let place = self.place;
                 let skip = self.skip;
                 let next = self.moved(advance(place, skip, shape, sizes, part, standing));
-                look_and_count(
-                    self,
+                make_test(
+                    place,
+                    skip,
                     shape,
                     columns,
                     standing,
                     cells,
+                    lines,
                     counters,
                     flags,
                     totals,

@@ -1,6 +1,5 @@
 // The detection cycle of the sorting head's array: its record, and the calls that need it.
 pub mod calls;
-mod passes;
 
 use cycle_place::Place;
 use cycle_place::walk;
@@ -13,14 +12,14 @@ ghost use mathlib.Core.Path.{_≡_};
 ghost use mathlib.Core.Bool.{cond};
 ghost use Prim.Native.Nat.{suc, _<_};
 ghost use lib.Dec.{leb};
-ghost use Rattle.parity.specs.Matrix.{matrix as matrixOf, lookups};
+ghost use Rattle.parity.specs.Matrix.{matrix as matrixOf, cycleSteps};
 ghost use Rattle.parity.specs.Questions.{Taken};
 ghost use Rattle.parity.specs.Claims.{longestShape};
 ghost use Rattle.shape.specs.Shapes.{sizesOf};
-ghost use Rattle.cycle_place.specs.Walk.{standingAt};
-ghost use Rattle.cycle_place.specs.declared.walk.Located.the-variants.{At, Elsewhere};
+ghost use Rattle.cycle_place.specs.Walk.{foundAt};
+ghost use Rattle.cycle_place.specs.declared.walk.Located.the-variants.{Elsewhere};
 ghost use Rattle.cycle.specs.declared.Phase.the-variants.{Open};
-ghost use Rattle.cycle.specs.Record.{openAt, completeAt, recordAt, isOpen, isNext};
+ghost use Rattle.cycle.specs.Record.{noPlace, openAt, completeAt, recordAt, isOpen, isNext};
 
 pub enum Phase {
     Idle,
@@ -32,7 +31,7 @@ pub enum Phase {
 // low digits that it skips.
 pub struct Cycle {
     pub phase: Phase,
-    // all 0 where no lookup is to come
+    // all 0 where the opening is next, and where no lookup is to come
     pub place: Place,
     pub count: usize,
     pub skip: usize,
@@ -58,18 +57,23 @@ impl Cycle {
         skip: 0,
     };
 
-    // The lookups of the longest cycle: 255 by the 1,024 ones of the largest check matrix, no digit skipped. No record that
-    // a start and accepted steps leave has a larger count.
-    pub const MAX_COUNT: usize = 261120;
+    // The steps of the longest cycle: the opening, and 255 tests for each of the 1,024 ones of the largest check matrix, no
+    // digit skipped. No record that a start and accepted steps leave has a larger count.
+    pub const MAX_COUNT: usize = 261121;
 
-    // The open record whose next lookup is at a place of the schedule.
-    pub fn open(skip: usize, place: Place, count: usize) -> Self
-        ensures { λ r. ⌜ r ≡ openAt skip place count ⌝ }
+    // The record after a start: the opening is next.
+    pub fn opening(skip: usize) -> Self
+        ensures { λ r. ⌜ r ≡ openAt skip noPlace 0 ⌝ }
     {
         Self {
             phase: Phase::Open,
-            place,
-            count,
+            place: Place {
+                check: 0,
+                digit: 0,
+                column: 0,
+                factor: 0,
+            },
+            count: 0,
             skip,
         }
     }
@@ -104,7 +108,7 @@ impl Cycle {
 
     // Whether some cycle has this many accepted steps.
     pub(crate) fn within_longest(self) -> bool
-        ensures { λ r. ⌜ r ≡ leb (self .count) (lookups 0 longestShape) ⌝ }
+        ensures { λ r. ⌜ r ≡ leb (self .count) (cycleSteps 0 longestShape) ⌝ }
     {
         self.count <= Cycle::MAX_COUNT
     }
@@ -112,7 +116,7 @@ impl Cycle {
     // Whether the record stands at the place of its count, with that lookup still to come, and where.
     pub(crate) fn locate(self, shape: Shape, sizes: Sizes, matrix: &[u8]) -> Located
         requires { ⌜ Taken shape × (sizes ≡ sizesOf shape) × (now matrix ≡ matrixOf shape) ⌝ }
-        ensures { λ r. ⌜ r ≡ cond (isNext shape self) (At (standingAt shape (self .place))) Elsewhere ⌝ }
+        ensures { λ r. ⌜ r ≡ cond (isNext shape self) (foundAt shape (self .count) (self .place)) Elsewhere ⌝ }
     {
         let place = self.place;
         let skip = self.skip;
@@ -128,7 +132,7 @@ impl Cycle {
 
     // The open record after a lookup, by the place of the next one.
     pub(crate) fn moved(mut self, next: Next) -> Self
-        requires { ⌜ (self .phase ≡ Open) × (self .count < 261120) ⌝ }
+        requires { ⌜ (self .phase ≡ Open) × (self .count < 261121) ⌝ }
         ensures { λ r. ⌜ r ≡ recordAt (self .skip) next (suc (self .count)) ⌝ }
     {
         self.count = self.count + 1;

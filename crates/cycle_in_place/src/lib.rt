@@ -14,16 +14,17 @@ pub fn step_in_place(
     cycle: &mut Cycle,
     shape: Shape,
     cells: &[u8],
+    lines: &[u8],
     counters: &mut [u8],
     flags: &mut [u8],
     totals: &mut [u8],
     matches: &mut [u8],
 ) -> Outcome
-    ensures { λ r. ⌜ ((mem : Memory) → stepCall shape (stateOf (withAll (was cells) (was counters) (was flags) (was totals) mem) (was cycle)) (was matches)
-        ≡ giving (outcomeSays r) (left matches) (stateOf (withAll (was cells) (left counters) (left flags) (left totals) mem) (left cycle))) ⌝ }
+    ensures { λ r. ⌜ ((mem : Memory) → stepCall shape (stateOf (withAll (was cells) (was lines) (was counters) (was flags) (was totals) mem) (was cycle)) (was matches)
+        ≡ giving (outcomeSays r) (left matches) (stateOf (withAll (was cells) (was lines) (left counters) (left flags) (left totals) mem) (left cycle))) ⌝ }
 {
     let before = *cycle;
-    let stepped = before.step(shape, cells, counters, flags, totals, matches);
+    let stepped = before.step(shape, cells, lines, counters, flags, totals, matches);
     let after = stepped.cycle;
     *cycle = after;
     stepped.outcome

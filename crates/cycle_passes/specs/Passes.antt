@@ -21,9 +21,9 @@ countedByte ρ counters matches = λ i. (getD counters i 0 + getD matches i 0) %
 abbrev pub countedBytes : ℕ → List ℕ → List ℕ → List ℕ
 countedBytes ρ counters matches = tabulate (length counters) (countedByte ρ counters matches)
 
--- the flags, with 1 in each row whose counter isn't 0
-abbrev pub flaggedByte : List ℕ → List ℕ → ℕ → ℕ
-flaggedByte counters flags = λ i. cond (eqb (getD counters i 0) 0) (getD flags i 0) 1
+-- the bytes, with one byte in each row whose sign isn't 0
+abbrev pub overwrittenByte : List ℕ → ℕ → List ℕ → ℕ → ℕ
+overwrittenByte signs byte bytes = λ i. cond (eqb (getD signs i 0) 0) (getD bytes i 0) byte
 
-abbrev pub flaggedBytes : List ℕ → List ℕ → List ℕ
-flaggedBytes counters flags = tabulate (length flags) (flaggedByte counters flags)
+abbrev pub overwrittenBytes : List ℕ → ℕ → List ℕ → List ℕ
+overwrittenBytes signs byte bytes = tabulate (length bytes) (overwrittenByte signs byte bytes)

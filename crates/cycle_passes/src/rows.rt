@@ -7,10 +7,10 @@ ghost use mathlib.Core.Path.{_≡_};
 ghost use Prim.Native.Nat.{ℕ, _*_, _≤_, _<_};
 ghost use lib.ListN.{length, getD, replicate};
 ghost use Rattle.shape.specs.Lent.{was, left};
-ghost use Rattle.cycle_passes.specs.Passes.{columnMatches, countedBytes, flaggedBytes};
+ghost use Rattle.cycle_passes.specs.Passes.{columnMatches, countedBytes, overwrittenBytes};
 
-// The match byte of every row for the vector with the input in one column and 0 elsewhere: that column alone
-// can say no.
+// The match byte of every row for the vector with the input in one column and 0 elsewhere, if all lines are sound: that
+// column alone can say no.
 pub fn match_column(cells: &[u8], columns: usize, column: usize, input: u8, matches: &mut [u8])
     requires { ⌜ (column < columns) × (length (now matches) * columns ≤ length (now cells)) ⌝ }
     ensures { λ _. ⌜ left matches ≡ columnMatches columns column input (was cells) (length (was matches)) ⌝ }
@@ -71,18 +71,19 @@ pub fn count_rows(counters: &mut [u8], matches: &[u8], radix: usize)
     count_any(counters, matches, radix);
 }
 
-// Flags the rows whose counter isn't 0; no flag falls back.
-pub fn flag_rows(counters: &[u8], flags: &mut [u8])
-    requires { ⌜ length (now counters) ≡ length (now flags) ⌝ }
-    ensures { λ _. ⌜ left flags ≡ flaggedBytes (was counters) (was flags) ⌝ }
+// Writes a byte in each row whose sign isn't 0, and leaves the other rows as they are: so 0 goes to the match bytes of dead
+// lines, and 1 to the flags of rows with a counter or, at an opening, a line that isn't 0.
+pub fn overwrite(signs: &[u8], bytes: &mut [u8], byte: u8)
+    requires { ⌜ length (now signs) ≡ length (now bytes) ⌝ }
+    ensures { λ _. ⌜ left bytes ≡ overwrittenBytes (was signs) byte (was bytes) ⌝ }
 {
     let mut i: usize = 0;
-    while i < flags.len() {
+    while i < bytes.len() {
         // a store in both cases, so that the loop can be compiled to vector code
-        if counters[i] == 0 {
-            flags[i] = flags[i];
+        if signs[i] == 0 {
+            bytes[i] = bytes[i];
         } else {
-            flags[i] = 1;
+            bytes[i] = byte;
         }
         i += 1;
     }

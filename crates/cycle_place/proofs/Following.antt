@@ -1,4 +1,4 @@
--- The place after a lookup: the next factor in its column, else the next column of J(ℓ), else the first of the next lower digit
+-- The place after that of a test: the next factor in its column, else the next column of J(ℓ), else the first of the next lower digit
 -- that is not skipped, else the first of the next check row, else the end. Assumes nothing.
 use mathlib.Core.Path.{_≡_, refl, sym, ap, _∙_}
 use Prim.Native.Nat.{ℕ, suc, _+_, _-_, _*_, _≤_, _<_}
@@ -27,7 +27,7 @@ use Rattle.cycle_place.proofs.Spans.{span-times, span-end, span-less}
 use Rattle.cycle_place.proofs.NextFactor.{nextFactor, next-undivided, next-rank, next-last}
 use Rattle.cycle_place.proofs.Places.{AtPlace, place-next, place-end}
 
--- how many lookups stand before those of check row ℓ, and before those of digit d in the column of rank r there
+-- how many tests stand before those of check row ℓ, and before those of digit d in the column of rank r there
 abbrev checkStart : ℕ → Shape → ℕ → ℕ
 checkStart z s ℓ = (span s z - 1) * sumTo ℓ (supportSize s)
 
@@ -60,7 +60,7 @@ module _ (z : ℕ) (s : Shape) (t : Taken s) where
 
   -- the place of the first lookup of a digit from a column on ..
   start-place :
-      (ℓ d i c : ℕ) → ℓ < checks s → z ≤ d → d < s .digits → i ≤ columns s → rank s ℓ i < supportSize s ℓ → c ≡ columnStart z s ℓ d (rank s ℓ i)
+      (ℓ d i c : ℕ) → ℓ < checks s → z ≤ d → d < s .digits → i ≤ columns s → rank s ℓ i < supportSize s ℓ → c ≡ suc (columnStart z s ℓ d (rank s ℓ i))
       → AtPlace z s c (placeAt ℓ d (heldFrom (matrix s) ℓ i) 1)
   unfolding rank supportSize support placeIndex
   start-place ℓ d i c row unskipped digit within some e =
@@ -77,22 +77,22 @@ module _ (z : ℕ) (s : Shape) (t : Taken s) where
         high = omega (arith, span-less s t d digit);
         undivided = λ none. omega (arith, mod-eq-of-lt {n = 1} (two s t));
       } in
-      let index : placeIndex z s ℓ d (heldFrom (matrix s) ℓ i) 1 ≡ c =
+      let index : suc (placeIndex z s ℓ d (heldFrom (matrix s) ℓ i) 1) ≡ c =
       omega (arith, ap (λ r. r * (span s d - span s (suc d))) (held .before), zero-div (s .radix)) in
       (place, index)
 
   -- .. and at its first of all
   first-place :
-      (ℓ d c : ℕ) → ℓ < checks s → z ≤ d → d < s .digits → c ≡ columnStart z s ℓ d 0 → AtPlace z s c (placeAt ℓ d (heldFrom (matrix s) ℓ 0) 1)
+      (ℓ d c : ℕ) → ℓ < checks s → z ≤ d → d < s .digits → c ≡ suc (columnStart z s ℓ d 0) → AtPlace z s c (placeAt ℓ d (heldFrom (matrix s) ℓ 0) 1)
   unfolding rank supportSize
   first-place ℓ d c row unskipped digit e = start-place ℓ d 0 c row unskipped digit (omega arith) (support-some s t ℓ row) e
 
-  -- ---- the place of a start
+  -- ---- the place after the opening
 
-  pub place-first : z < s .digits → AtPlace z s 0 (placeAt 0 (s .digits - 1) (heldFrom (matrix s) 0 0) 1)
-  place-first h = first-place 0 (s .digits - 1) 0 (redundancyClaim s t .low) (omega arith) (omega arith) (omega (arith, check-start 0))
+  pub place-first : z < s .digits → AtPlace z s 1 (placeAt 0 (s .digits - 1) (heldFrom (matrix s) 0 0) 1)
+  place-first h = first-place 0 (s .digits - 1) 1 (redundancyClaim s t .low) (omega arith) (omega arith) (omega (arith, check-start 0))
 
--- ---- the place after a lookup
+-- ---- the place after a test
 
 module _ (z : ℕ) (s : Shape) (t : Taken s) (p : Place) (place : Stands z s p) where
   -- the lookups up to this one
@@ -126,7 +126,7 @@ module _ (z : ℕ) (s : Shape) (t : Taken s) (p : Place) (place : Stands z s p) 
       omega (arith, before-next (matrix s) (p .check) (p .column) (omega (arith, matrixClaim s t .sized, place .column)), place .held)
 
   module _ (past : span s (p .digit) ≤ nextFactor (s .radix) (p .factor)) where
-    column-done : count ≡ columnStart z s (p .check) (p .digit) (suc (rank s (p .check) (p .column)))
+    column-done : count ≡ suc (columnStart z s (p .check) (p .digit) (suc (rank s (p .check) (p .column))))
     unfolding placeIndex
     column-done =
         let d : ℕ = p .digit in
@@ -147,15 +147,15 @@ module _ (z : ℕ) (s : Shape) (t : Taken s) (p : Place) (place : Stands z s p) 
         place-next z s t count _
         (start-place z s t (p .check) (p .digit) (suc (p .column)) count (place .check) (place .unskipped)
         (place .digit) (place .column) (rw column-after more)
-        (column-done ∙ ap (columnStart z s (p .check) (p .digit)) (sym column-after)))
+        (column-done ∙ ap (λ r. suc (columnStart z s (p .check) (p .digit) r)) (sym column-after)))
 
     module _ (last : supportSize s (p .check) ≤ suc (rank s (p .check) (p .column))) where
-      digit-done : count ≡ columnStart z s (p .check) (p .digit) (supportSize s (p .check))
+      digit-done : count ≡ suc (columnStart z s (p .check) (p .digit) (supportSize s (p .check)))
       unfolding supportSize
       digit-done =
           let all : suc (rank s (p .check) (p .column)) ≡ supportSize s (p .check) =
           omega (arith, stands-support s t (p .check) (p .column) (place .column) (place .held) .0) in
-          column-done ∙ ap (columnStart z s (p .check) (p .digit)) all
+          column-done ∙ ap (λ r. suc (columnStart z s (p .check) (p .digit) r)) all
 
       pub follow-digit :
           z < p .digit
@@ -173,10 +173,10 @@ module _ (z : ℕ) (s : Shape) (t : Taken s) (p : Place) (place : Stands z s p) 
 
       -- at the last digit, the lowest that is not skipped
       module _ (lowest : p .digit ≡ z) where
-        check-done : count ≡ checkStart z s (suc (p .check))
+        check-done : count ≡ suc (checkStart z s (suc (p .check)))
         check-done =
-            digit-done ∙ ap (λ d. columnStart z s (p .check) d (supportSize s (p .check))) lowest
-            ∙ check-end z s t (p .check) (omega (arith, place .digit))
+            digit-done ∙ ap (λ d. suc (columnStart z s (p .check) d (supportSize s (p .check)))) lowest
+            ∙ ap suc (check-end z s t (p .check) (omega (arith, place .digit)))
 
         pub follow-check :
             suc (p .check) < checks s
@@ -184,9 +184,9 @@ module _ (z : ℕ) (s : Shape) (t : Taken s) (p : Place) (place : Stands z s p) 
         follow-check more =
             place-next z s t count _
             (first-place z s t (suc (p .check)) (s .digits - 1) count more (omega (arith, place .digit)) (omega (arith, place .digit))
-            (check-done ∙ sym (check-start z s t (suc (p .check)))))
+            (check-done ∙ ap suc (sym (check-start z s t (suc (p .check))))))
 
         pub follow-end : checks s ≤ suc (p .check) → nextAt z s count ≡ nexts.End
         follow-end end =
             let all : suc (p .check) ≡ checks s = omega (arith, place .check) in
-            place-end z s t count (omega (arith, check-done ∙ ap (checkStart z s) all ∙ checks-end z s t))
+            place-end z s t count (omega (arith, check-done ∙ ap (λ ℓ. suc (checkStart z s ℓ)) all ∙ ap suc (checks-end z s t)))

@@ -13,7 +13,7 @@ use Rattle.cycle_place.specs.declared.walk.Next.the-variants as nexts
 abbrev pub placeAt : ℕ → ℕ → ℕ → ℕ → Place
 placeAt ℓ s j a = record { check = ℓ; digit = s; column = j; factor = a }
 
--- the place of an entry of the schedule
+-- the place of an entry of the schedule; that of the opening, and of no other, is all 0
 abbrev pub placeOf : Entry → Place
 placeOf e = placeAt (e .check) (e .digit) (e .column) (e .factor)
 
@@ -28,6 +28,6 @@ nextAt z s c = cond (ltb c (length (schedule z s))) (nexts.Place (placeOf (entry
 abbrev pub samePlace : Place → Place → Bool
 samePlace p q = eqb (p .check) (q .check) && eqb (p .digit) (q .digit) && eqb (p .column) (q .column) && eqb (p .factor) (q .factor)
 
--- whether a vector is to come after c others, and its place is this one
+-- whether a cycle that skips z digits, which are not all, has a vector to come after c others, and its place is this one
 unfoldable pub isPlaceOf : ℕ → Shape → ℕ → Place → Bool
-isPlaceOf z s c place = ltb c (length (schedule z s)) && samePlace place (placeOf (entryAt z s c))
+isPlaceOf z s c place = ltb z (s .digits) && (ltb c (length (schedule z s)) && samePlace place (placeOf (entryAt z s c)))

@@ -15,7 +15,8 @@ ghost use Prim.Native.Nat.{ℕ, suc, _<_};
 ghost use Rattle.parity.specs.Matrix.{matrix as matrixOf};
 ghost use Rattle.parity.specs.Questions.{Taken};
 ghost use Rattle.shape.specs.Shapes.{sizesOf};
-ghost use Rattle.cycle_place.specs.Places.{placeOf, entryAt, nextAt};
+ghost use Rattle.cycle_place.specs.Places.{placeAt, nextAt, samePlace};
+ghost use Rattle.cycle_place.specs.declared.walk.Next.the-variants.{Place as NextPlace};
 ghost use Rattle.cycle_place.specs.Walk.{Stands, indexOf, standingAt, locatedAt};
 
 // Where a place stands in its check row and digit: q / ρ^s, |J(ℓ)|, and the columns of J(ℓ) before its own.
@@ -25,7 +26,9 @@ pub struct Standing {
     pub rank: usize,
 }
 
+// What a place is: that of the opening, that of a test, with where it stands, or none.
 pub enum Located {
+    Opening,
     At(Standing),
     Elsewhere,
 }
@@ -36,8 +39,36 @@ pub enum Next {
     End,
 }
 
-// Whether the lookup at a place is the one that comes after so many others, and where it stands.
-pub fn locate(
+fn is_zero(place: Place) -> bool
+    ensures { λ r. ⌜ r ≡ samePlace place (placeAt 0 0 0 0) ⌝ }
+{
+    if place.check != 0 {
+        return false;
+    }
+    if place.digit != 0 {
+        return false;
+    }
+    if place.column != 0 {
+        return false;
+    }
+    place.factor == 0
+}
+
+// Whether a place is the opening's, which comes first: all 0, in a cycle that does not skip all digits.
+fn locate_opening(place: Place, skip: usize, shape: Shape) -> Located
+    ensures { λ r. ⌜ r ≡ locatedAt skip shape 0 place ⌝ }
+{
+    if shape.digits <= skip {
+        return Located::Elsewhere;
+    }
+    if !is_zero(place) {
+        return Located::Elsewhere;
+    }
+    Located::Opening
+}
+
+// Whether the test at a place is the lookup that comes after so many others, and where it stands.
+fn locate_test(
     place: Place,
     skip: usize,
     count: usize,
@@ -45,7 +76,7 @@ pub fn locate(
     sizes: Sizes,
     matrix: &[u8],
 ) -> Located
-    requires { ⌜ Taken shape × (sizes ≡ sizesOf shape) × (now matrix ≡ matrixOf shape) ⌝ }
+    requires { ⌜ Taken shape × (sizes ≡ sizesOf shape) × (now matrix ≡ matrixOf shape) × (0 < count) ⌝ }
     ensures { λ r. ⌜ r ≡ locatedAt skip shape count place ⌝ }
 {
     let check = place.check;
@@ -76,7 +107,8 @@ pub fn locate(
     let survey = survey_check(matrix, check, column);
     // q / ρ^z
     let levels = scale(span, radix, digit - skip);
-    if index_of(levels, radix, factor, next, survey) != count {
+    // the opening comes before the tests
+    if index_of(levels, radix, factor, next, survey) + 1 != count {
         return Located::Elsewhere;
     }
     Located::At(Standing {
@@ -86,10 +118,28 @@ pub fn locate(
     })
 }
 
-// The place of a cycle's first lookup, whatever digits it skips.
+// Whether the lookup at a place is the one that comes after so many others, and where it stands.
+pub fn locate(
+    place: Place,
+    skip: usize,
+    count: usize,
+    shape: Shape,
+    sizes: Sizes,
+    matrix: &[u8],
+) -> Located
+    requires { ⌜ Taken shape × (sizes ≡ sizesOf shape) × (now matrix ≡ matrixOf shape) ⌝ }
+    ensures { λ r. ⌜ r ≡ locatedAt skip shape count place ⌝ }
+{
+    if count == 0 {
+        return locate_opening(place, skip, shape);
+    }
+    locate_test(place, skip, count, shape, sizes, matrix)
+}
+
+// The place of a cycle's first test, which comes after the opening, whatever digits it skips.
 pub fn first(shape: Shape, matrix: &[u8]) -> Place
     requires { ⌜ Taken shape × (now matrix ≡ matrixOf shape) ⌝ }
-    ensures { λ r. ⌜ ((z : ℕ) → z < shape .digits → placeOf (entryAt z shape 0) ≡ r) ⌝ }
+    ensures { λ r. ⌜ ((z : ℕ) → z < shape .digits → nextAt z shape 1 ≡ NextPlace r) ⌝ }
 {
     let digits = shape.digits;
     Place {
@@ -100,7 +150,7 @@ pub fn first(shape: Shape, matrix: &[u8]) -> Place
     }
 }
 
-// The place after one of the schedule.
+// The place after that of a test.
 pub fn advance(
     place: Place,
     skip: usize,

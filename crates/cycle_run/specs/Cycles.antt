@@ -1,16 +1,14 @@
 -- A whole cycle as one call.
 use mathlib.Core.List.{List, [], _∷_}
-use Prim.Native.Nat.{ℕ, _-_}
+use Prim.Native.Nat.{ℕ}
 use lib.ListN.{replicate}
-use Rattle.parity.specs.Shape.{columns}
-use Rattle.parity.specs.Matrix.{lookups}
+use Rattle.parity.specs.Matrix.{lookups, cycleSteps}
 use Rattle.parity.specs.Questions.{Question, callQuestions}
 use Rattle.parity.specs.declared.Shape.{Shape}
 use Rattle.shape.specs.Answers.{Result, accepted, giving, calling}
-use Rattle.schedule.specs.Schedule.{testVector}
-use Rattle.array_memory.specs.Geometry.{matchBytes}
 use Rattle.array_memory.specs.Memory.{Memory}
 use Rattle.cycle_place.specs.Places.{entryAt}
+use Rattle.cycle_lookup.specs.Lookup.{entryMatches}
 use Rattle.cycle.specs.Calls.{State, startArguments, lentQuestions}
 use Rattle.cycle.specs.Run.{start, step, runFrom}
 
@@ -18,12 +16,12 @@ use Rattle.cycle.specs.Run.{start, step, runFrom}
 abbrev pub cycleQuestions : Shape → Memory → ℕ → List ℕ → List Question
 cycleQuestions s mem z matches = callQuestions s (startArguments s z) (lentQuestions s mem matches) []
 
--- the match bytes of a cycle's last lookup
+-- the match bytes of a cycle's last lookup, which comes after the opening and all tests but itself
 unfoldable pub lastMatches : ℕ → Shape → Memory → List ℕ
-lastMatches z s mem = matchBytes (s .rows) (columns s) (testVector s (entryAt z s (lookups z s - 1))) (mem .cells)
+lastMatches z s mem = entryMatches s (entryAt z s (lookups z s)) mem
 
 -- a start and all the steps of a cycle; the match bytes are those of its last lookup
 unfoldable pub cycleCall : Shape → State → ℕ → List ℕ → Result State
 cycleCall s st z matches =
     calling (cycleQuestions s (st .memory) z matches) matches st
-    (giving (accepted 0) (lastMatches z s (st .memory)) (runFrom s st (start z ∷ replicate (lookups z s) (step matches))))
+    (giving (accepted 0) (lastMatches z s (st .memory)) (runFrom s st (start z ∷ replicate (cycleSteps z s) (step matches))))

@@ -10,7 +10,7 @@ use shape::sizes::Checked;
 ghost use mathlib.Core.Path.{_≡_};
 ghost use Prim.Native.Nat.{_<_};
 ghost use lib.ListN.{length, replicate};
-ghost use Rattle.parity.specs.Matrix.{lookups};
+ghost use Rattle.parity.specs.Matrix.{cycleSteps};
 ghost use Rattle.parity.specs.Questions.{Taken};
 ghost use Rattle.shape.specs.Answers.{accepted, giving};
 ghost use Rattle.shape.specs.Lent.{was, left};
@@ -26,21 +26,22 @@ fn run_open(
     cycle: Cycle,
     shape: Shape,
     cells: &[u8],
+    lines: &[u8],
     counters: &mut [u8],
     flags: &mut [u8],
     totals: &mut [u8],
     matches: &mut [u8],
 ) -> Cycle
     requires { ⌜ Taken shape × (cycle .skip < shape .digits) × (cycle ≡ cycleAt (cycle .skip) shape 0) ⌝ }
-    requires { ⌜ Sized shape (withAll (now cells) (now counters) (now flags) (now totals) noMemory) × (length (now matches) ≡ shape .rows) ⌝ }
-    ensures { λ r. ⌜ ((mem : Memory) → let st = stateOf (withAll (was cells) (was counters) (was flags) (was totals) mem) cycle in
+    requires { ⌜ Sized shape (withAll (now cells) (now lines) (now counters) (now flags) (now totals) noMemory) × (length (now matches) ≡ shape .rows) ⌝ }
+    ensures { λ r. ⌜ ((mem : Memory) → let st = stateOf (withAll (was cells) (was lines) (was counters) (was flags) (was totals) mem) cycle in
         giving (accepted 0) (lastMatches (cycle .skip) shape (st .memory))
-        (runFrom shape st (replicate (lookups (cycle .skip) shape) (step (was matches))))
-        ≡ changing (doneWith r) (left matches) (withAll (was cells) (left counters) (left flags) (left totals) mem)) ⌝ }
+        (runFrom shape st (replicate (cycleSteps (cycle .skip) shape) (step (was matches))))
+        ≡ changing (doneWith r) (left matches) (withAll (was cells) (was lines) (left counters) (left flags) (left totals) mem)) ⌝ }
 {
     let mut now = cycle;
     while now.is_open() {
-        let stepped = now.step(shape, cells, counters, flags, totals, matches);
+        let stepped = now.step(shape, cells, lines, counters, flags, totals, matches);
         now = stepped.cycle;
     }
     now
@@ -52,18 +53,20 @@ pub fn run_cycle(
     shape: Shape,
     skip: usize,
     cells: &[u8],
+    lines: &[u8],
     counters: &mut [u8],
     flags: &mut [u8],
     totals: &mut [u8],
     matches: &mut [u8],
 ) -> Changed
-    ensures { λ r. ⌜ ((mem : Memory) → cycleCall shape (stateOf (withAll (was cells) (was counters) (was flags) (was totals) mem) cycle) skip (was matches)
-        ≡ changing r (left matches) (withAll (was cells) (left counters) (left flags) (left totals) mem)) ⌝ }
+    ensures { λ r. ⌜ ((mem : Memory) → cycleCall shape (stateOf (withAll (was cells) (was lines) (was counters) (was flags) (was totals) mem) cycle) skip (was matches)
+        ≡ changing r (left matches) (withAll (was cells) (was lines) (left counters) (left flags) (left totals) mem)) ⌝ }
 {
     match check_matches(
         check_skip(shape, skip),
         shape,
         cells.len(),
+        lines.len(),
         counters.len(),
         flags.len(),
         totals.len(),
@@ -76,6 +79,7 @@ pub fn run_cycle(
                 started.cycle,
                 shape,
                 cells,
+                lines,
                 counters,
                 flags,
                 totals,

@@ -1,4 +1,4 @@
--- What a state and a log have in common after every list of calls: the rows, and the cycle with its record and lines. Here what it is, what it
+-- What a state and a log have in common after every list of calls: the rows, their lines, and the cycle with its record and tallies. Here what it is, what it
 -- gives, and that the fresh array has it. Assumes nothing.
 use mathlib.Core.Path.{_≡_, refl, sym, ap, _∙_}
 use mathlib.Core.Bool.{Bool, false}
@@ -6,7 +6,7 @@ use mathlib.Core.List.{List, []}
 use Prim.Native.Nat.{ℕ, _*_, _<_}
 use lib.ListN.{length, getD, take, drop, length-replicate}
 use Rattle.parity.specs.Shape.{levels, columns}
-use Rattle.parity.specs.Matrix.{lookups}
+use Rattle.parity.specs.Matrix.{cycleSteps}
 use Rattle.parity.specs.Codeword.{Codeword}
 use Rattle.parity.specs.Claims.{Below}
 use Rattle.parity.specs.Questions.{Taken}
@@ -24,7 +24,7 @@ use Rattle.detection.specs.Claims.{flat}
 use Rattle.detection.proofs.Elements.{all-replicate}
 use Rattle.detection.proofs.Rows.{Wide, flat-each, flat-replicate, flat-length, flat-row}
 use Rattle.detection.proofs.ZeroRow.{zero-row}
-use Rattle.cycle.proofs.Steps.{Lines, fresh-sized}
+use Rattle.cycle.proofs.Steps.{Tallies, fresh-sized}
 
 -- a row as it can stand: n cells, all below q
 pub record Cells (s : Shape) (row : List ℕ) : Type 0 where
@@ -42,12 +42,12 @@ pub record RowsAgree (s : Shape) (cells : List ℕ) (written standing : List (Li
   pub stands : All (Cells s) standing
   pub laid : cells ≡ flat standing
 
--- the cycle does not skip all digits; the record stands at the count of c taken steps, and so do the lines where no cell has drifted since the
--- start
-pub record Running (s : Shape) (st : State) (z c : ℕ) (mark : Bool) : Type 0 where
+-- the cycle does not skip all digits; the record stands at the count of c taken steps, and so do the rows' tallies where nothing has changed since
+-- the start
+pub record Running (s : Shape) (st : State) (z c : ℕ) (changed : Bool) : Type 0 where
   pub partial : z < s .digits
   pub stands : Stands z s c (st .cycle)
-  pub lines : mark ≡ false → Lines z s st c
+  pub tallies : changed ≡ false → Tallies z s st c
 
 -- the record is idle with count 0, and skips nothing
 pub record Resting (cycle : Cycle) (z c : ℕ) : Type 0 where
@@ -57,14 +57,16 @@ pub record Resting (cycle : Cycle) (z c : ℕ) : Type 0 where
 
 -- what the log's cycle says of the state
 abbrev pub InCourse : Shape → State → Course → ℕ → ℕ → Bool → Type 0
-InCourse s st none z c mark = Resting (st .cycle) z c
-InCourse s st open-cycle z c mark = Running s st z c mark × (c < lookups z s)
-InCourse s st ended z c mark = Running s st z c mark × (c ≡ lookups z s)
+InCourse s st none z c changed = Resting (st .cycle) z c
+InCourse s st open-cycle z c changed = Running s st z c changed × (c < cycleSteps z s)
+InCourse s st ended z c changed = Running s st z c changed × (c ≡ cycleSteps z s)
 
 pub record Agrees (s : Shape) (st : State) (l : Log) : Type 0 where
   pub rows : RowsAgree s (st .memory .cells) (l .written) (l .standing)
+  pub lines : st .memory .lines ≡ l .lines
+  pub lineCount : length (st .memory .lines) ≡ s .rows
   pub rest : RowsSized s (st .memory)
-  pub course : InCourse s st (l .course) (l .skip) (l .count) (l .mark)
+  pub course : InCourse s st (l .course) (l .skip) (l .count) (l .changed)
 
 module _ (s : Shape) (cells : List ℕ) (written standing : List (List ℕ)) (r : RowsAgree s cells written standing) where
   pub wide : Wide (columns s) standing
@@ -94,7 +96,7 @@ module _ (s : Shape) (cells : List ℕ) (written standing : List (List ℕ)) (r 
         ap (λ held. take (columns s) (drop (i * columns s) held)) (r .laid) ∙ flat-row (columns s) standing i wide (rw (r .standingCount) h)
 
 pub sized : (s : Shape) (st : State) (l : Log) → Agrees s st l → Sized s (st .memory)
-sized s st l a = record { cells = cells-sized s _ _ _ (a .rows); rows = a .rest }
+sized s st l a = record { cells = cells-sized s _ _ _ (a .rows); lines = a .lineCount; rows = a .rest }
 
 pub agrees-fresh : (s : Shape) → Taken s → Agrees s (fresh s) (blank s)
 unfolding fresh cleared zeroRows blank cellCount
@@ -108,6 +110,8 @@ agrees-fresh s t =
             stands = all-replicate (Cells s) (s .rows) _ (codeword-cells s _ (zero-row s t));
             laid = sym (flat-replicate (s .rows) (columns s) 0);
           };
+      lines = refl;
+      lineCount = length-replicate (s .rows) 0;
       rest = fresh-sized s .rows;
       course = record { phase = refl; count = (refl, refl); skip = (refl, refl) };
     }

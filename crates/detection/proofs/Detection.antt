@@ -1,16 +1,18 @@
--- After every list of calls the state is as the log says, and the flags at the end of a cycle without drift are right: seen above the digits that
--- it skips, and so demand 3's own sentence and Card 2's. Assumes nothing.
-use mathlib.Core.Path.{_≡_, refl, sym, ap, subst, _∙_}
-use mathlib.Core.Logic.{_↔_}
-use mathlib.Core.Bool.{Bool, true, false, cond}
+-- After every list of calls the state is as the log says, and the flags at the end of a cycle in which nothing has changed are right: seen above the
+-- digits that it skips, and so demand 3's own sentence and those of Cards 2 and 4. Assumes nothing.
+use mathlib.Core.Path.{_≡_, refl, sym, ap, ap₂, subst, _∙_}
+use mathlib.Core.Logic.{_↔_, _≢_}
+use mathlib.Core.Bool.{Bool, true, false, cond, _&&_}
 use mathlib.Core.List.{List, []}
-use Prim.Native.Nat.{ℕ, _-_, _*_, _/_, _≤_, _<_}
+use Prim.Native.Nat.{ℕ, suc, _-_, _*_, _/_, _≤_, _<_}
 use native.Mathlib.Nat.{le-of-eq, le-trans, div-one, pow-zero}
 use native.Mathlib.Omega.{arith}
+use lib.Dec.{eqb}
 use lib.ListN.{length, getD}
+use borrow.Author.Tests.{eq-eqb, ne-eqb}
 use Rattle.parity.specs.Lists.{differences}
 use Rattle.parity.specs.Shape.{levels}
-use Rattle.parity.specs.Matrix.{matrixOnes, lookups}
+use Rattle.parity.specs.Matrix.{matrixOnes, lookups, cycleSteps}
 use Rattle.parity.specs.Codeword.{Codeword, isCodeword}
 use Rattle.parity.specs.Questions.{Taken}
 use Rattle.parity.specs.declared.Shape.{Shape}
@@ -23,9 +25,10 @@ use Rattle.cycle.specs.Run.{Call, run}
 use Rattle.detection.specs.Log.{Course, none, open-cycle, ended, Log, log}
 use Rattle.detection.specs.Claims.{phaseOf, RightFlag, wroteAt, standsAt, DetectionClaim, DemandClaim, CoarseClaim, LevelsClaim}
 use Rattle.cycle.proofs.CycleRecord.{record-open, record-complete}
-use Rattle.cycle.proofs.Steps.{lines-ended}
+use Rattle.cycle.proofs.Steps.{tallies-ended}
 use Rattle.detection.proofs.Agreement.{Cells, InCourse, Agrees, cells-below, written-row, standing-row, row-stands, agrees-fresh}
 use Rattle.detection.proofs.Keeping.{agrees-run}
+use Rattle.detection.proofs.Marks.{unmarkedClaim}
 
 pub agrees : (s : Shape) → Taken s → (calls : List Call) → Agrees s (run s calls) (log s calls)
 unfolding run log
@@ -49,35 +52,45 @@ open≢ended : open-cycle ≡ ended → ⊥
 unfolding number
 open≢ended e = let never : _≡_ {A = ℕ} 1 2 = ap number e in absurd (omega arith)
 
+-- a dead line's flag is 1
+dead-flag : (line : ℕ) → line ≢ 0 → (b : Bool) → _≡_ {A = ℕ} (cond (eqb line 0 && b) 0 1) 1
+dead-flag line dead b = ap (λ a. cond (a && b) 0 1) (ne-eqb line 0 dead)
+
 module _ (s : Shape) (t : Taken s) where
-  -- the flag that says whether the row as it stands is balanced from z on is right, where its floors differ in at most τ cells from a sound row's
+  -- the flag that says whether the line is sound and the row as it stands is balanced from z on is right, where its floors differ in at most τ cells
+  -- from a sound row's
   right-flag :
-      (z : ℕ) → z < s .digits → (written standing : List ℕ) (flag : ℕ) → Codeword s written → Cells s standing
-      → differences (floors z s written) (floors z s standing) ≤ s .errors → flag ≡ cond (isBalancedFrom z s standing) 0 1
-      → RightFlag (floors z s written) (floors z s standing) flag
-  right-flag z lt written standing flag code c near e =
+      (z : ℕ) → z < s .digits → (line : ℕ) (written standing : List ℕ) (flag : ℕ) → Codeword s written → Cells s standing
+      → differences (floors z s written) (floors z s standing) ≤ s .errors → flag ≡ cond (eqb line 0 && isBalancedFrom z s standing) 0 1
+      → RightFlag line (floors z s written) (floors z s standing) flag
+  right-flag z lt line written standing flag code c near e =
       record {
-        unchanged = λ same. e ∙ ap (λ b. cond b 0 1) (test .1 (floors-balanced z s t lt written standing same (λ ℓ d h low k. code .balanced ℓ d h k)));
-        changed = λ apart. e ∙ go apart (isBalancedFrom z s standing) refl;
+        unchanged =
+            λ sound same. e
+            ∙ ap₂ (λ a b. cond (a && b) 0 1) (eq-eqb line 0 sound)
+            (test .1 (floors-balanced z s t lt written standing same (λ ℓ d h low k. code .balanced ℓ d h k)));
+        changed = λ apart. e ∙ go apart (eqb line 0) (isBalancedFrom z s standing) refl;
+        dead = λ dead. e ∙ dead-flag line dead (isBalancedFrom z s standing);
       }
     where
       test : (isBalancedFrom z s standing ≡ true) ↔ BalancedFrom z s standing
       test = balancedClaim z s standing
 
-      go : (floors z s written ≡ floors z s standing → ⊥) → (b : Bool) → isBalancedFrom z s standing ≡ b → _≡_ {A = ℕ} (cond b 0 1) 1
-      go apart true p = absurd (apart (floors-equal z s t lt written standing code (c .sized) (c .below) (test .0 p) near))
-      go apart false p = refl
+      go : (floors z s written ≡ floors z s standing → ⊥) → (a b : Bool) → isBalancedFrom z s standing ≡ b → _≡_ {A = ℕ} (cond (a && b) 0 1) 1
+      go apart a true p = absurd (apart (floors-equal z s t lt written standing code (c .sized) (c .below) (test .0 p) near))
+      go apart true false p = refl
+      go apart false false p = refl
 
   -- what the log's cycle says of the record: its phase, its count, the digits that it skips, and where the count is
   pub record Counted (cycle : Cycle) (k : Course) (z c : ℕ) : Type 0 where
     pub phase : cycle .phase ≡ phaseOf k
     pub count : cycle .count ≡ c
     pub skip : cycle .skip ≡ z
-    pub open-below : k ≡ open-cycle → c < lookups z s
-    pub ended-at : k ≡ ended → c ≡ lookups z s
+    pub open-below : k ≡ open-cycle → c < cycleSteps z s
+    pub ended-at : k ≡ ended → c ≡ cycleSteps z s
 
-  counted : (st : State) (k : Course) (z c : ℕ) (mark : Bool) → InCourse s st k z c mark → Counted (st .cycle) k z c
-  counted st none z c mark f =
+  counted : (st : State) (k : Course) (z c : ℕ) (changed : Bool) → InCourse s st k z c changed → Counted (st .cycle) k z c
+  counted st none z c changed f =
       record {
         phase = f .phase;
         count = f .count .0 ∙ sym (f .count .1);
@@ -85,7 +98,7 @@ module _ (s : Shape) (t : Taken s) where
         open-below = λ e. absurd (none≢open e);
         ended-at = λ e. absurd (none≢ended e);
       }
-  counted st open-cycle z c mark f =
+  counted st open-cycle z c changed f =
       record {
         phase = f .0 .stands .phase ∙ ap (λ r. r .phase) (record-open z s t c (f .1));
         count = f .0 .stands .count;
@@ -93,7 +106,7 @@ module _ (s : Shape) (t : Taken s) where
         open-below = λ e. f .1;
         ended-at = λ e. absurd (open≢ended e);
       }
-  counted st ended z c mark f =
+  counted st ended z c changed f =
       record {
         phase = f .0 .stands .phase ∙ ap (λ r. r .phase) (record-complete z s t c (le-of-eq (sym (f .1))));
         count = f .0 .stands .count;
@@ -103,37 +116,40 @@ module _ (s : Shape) (t : Taken s) where
       }
 
   module _ (st : State) (l : Log) (a : Agrees s st l) (e : l .course ≡ ended) where
-    course-ended : InCourse s st ended (l .skip) (l .count) (l .mark)
-    course-ended = subst (λ k. InCourse s st k (l .skip) (l .count) (l .mark)) e (a .course)
+    course-ended : InCourse s st ended (l .skip) (l .count) (l .changed)
+    course-ended = subst (λ k. InCourse s st k (l .skip) (l .count) (l .changed)) e (a .course)
 
-    -- at the end of a cycle without drift the flags say which rows have a digit sum from z on that is not 0 ..
+    -- at the end of a cycle in which nothing has changed the flags say which rows have a dead line or a digit sum from z on that is not 0 ..
     pub ended-flag :
-        l .mark ≡ false → (i : ℕ) → i < s .rows → getD (st .memory .flags) i 0 ≡ cond (isBalancedFrom (l .skip) s (getD (l .standing) i [])) 0 1
+        l .changed ≡ false → (i : ℕ) → i < s .rows
+        → getD (st .memory .flags) i 0 ≡ cond (eqb (getD (l .lines) i 0) 0 && isBalancedFrom (l .skip) s (getD (l .standing) i [])) 0 1
     ended-flag off i h =
         let f = course-ended in
         let row = row-stands s _ _ _ (a .rows) i h in
         let c : Cells s (getD (l .standing) i []) = standing-row s _ _ _ (a .rows) i h in
-        lines-ended s st t (l .skip) (rw (f .1) at (f .0 .lines off)) i h (ap length row ∙ c .sized) (rw row (c .below))
-        ∙ ap (λ r. cond (isBalancedFrom (l .skip) s r) 0 1) row
+        tallies-ended s st t (l .skip) (rw (f .1) at (f .0 .tallies off)) i h (ap length row ∙ c .sized) (rw row (c .below))
+        ∙ ap₂ (λ lines r. cond (eqb (getD lines i 0) 0 && isBalancedFrom (l .skip) s r) 0 1) (a .lines) row
 
-    -- .. and where no digit was skipped, which rows are not sound
+    -- .. and where no digit was skipped, which rows have a dead line or are not sound
     pub ended-sound :
-        l .skip ≡ 0 → l .mark ≡ false → (i : ℕ) → i < s .rows → getD (st .memory .flags) i 0 ≡ cond (isCodeword s (getD (l .standing) i [])) 0 1
+        l .skip ≡ 0 → l .changed ≡ false → (i : ℕ) → i < s .rows
+        → getD (st .memory .flags) i 0 ≡ cond (eqb (getD (l .lines) i 0) 0 && isCodeword s (getD (l .standing) i [])) 0 1
     ended-sound fine off i h =
         let standing : List ℕ = getD (l .standing) i [] in
         let c : Cells s standing = standing-row s _ _ _ (a .rows) i h in
         ended-flag off i h
-        ∙ ap (λ z. cond (isBalancedFrom z s standing) 0 1) fine
-        ∙ ap (λ b. cond b 0 1) (sound-test s standing (c .sized) (c .below))
+        ∙ ap (λ z. cond (eqb (getD (l .lines) i 0) 0 && isBalancedFrom z s standing) 0 1) fine
+        ∙ ap (λ b. cond (eqb (getD (l .lines) i 0) 0 && b) 0 1) (sound-test s standing (c .sized) (c .below))
 
 pub detectionClaim : DetectionClaim
 detectionClaim s t calls =
     let st : State = run s calls in
     let l : Log = log s calls in
     let a : Agrees s st l = agrees s t calls in
-    let k = counted s t st (l .course) (l .skip) (l .count) (l .mark) (a .course) in
+    let k = counted s t st (l .course) (l .skip) (l .count) (l .changed) (a .course) in
     record {
       cells = a .rows .laid;
+      lines = a .lines;
       phase = k .phase;
       count = k .count;
       skip = k .skip;
@@ -141,37 +157,40 @@ detectionClaim s t calls =
       ended-at = λ e. k .count ∙ k .ended-at e;
       verdict =
           λ (is, off) i h near.
-          right-flag s t (l .skip) (course-ended s t st l a is .0 .partial) (getD (l .written) i []) (getD (l .standing) i []) (getD (st .memory .flags) i 0)
+          right-flag s t (l .skip) (course-ended s t st l a is .0 .partial) (getD (l .lines) i 0) (getD (l .written) i []) (getD (l .standing) i []) (getD (st .memory .flags) i 0)
           (written-row s _ _ _ (a .rows) i h) (standing-row s _ _ _ (a .rows) i h) near (ended-flag s t st l a is off i h);
+      dead = λ (is, off) i h dead. ended-flag s t st l a is off i h ∙ dead-flag (getD (l .lines) i 0) dead _;
     }
 
--- where no digit is skipped the cycle has (q − 1) × W lookups
+-- where no digit is skipped the cycle has (q − 1) × W tests
 whole-length : (s : Shape) → lookups 0 s ≡ (levels s - 1) * matrixOnes s
 unfolding lookups
 whole-length s = ap (λ x. (x - 1) * matrixOnes s) (ap (λ p. levels s / p) (pow-zero (s .radix)) ∙ div-one (levels s))
 
 -- .. and sees all of a row
-whole-rows : (z : ℕ) → z ≡ 0 → (s : Shape) (x y : List ℕ) (flag : ℕ) → RightFlag (floors z s x) (floors z s y) flag → RightFlag x y flag
-whole-rows z e s x y flag r =
+whole-rows :
+    (z : ℕ) → z ≡ 0 → (s : Shape) (line : ℕ) (x y : List ℕ) (flag : ℕ) → RightFlag line (floors z s x) (floors z s y) flag → RightFlag line x y flag
+whole-rows z e s line x y flag r =
     let all : (row : List ℕ) → floors z s row ≡ row = λ row. ap (λ z. floors z s row) e ∙ floors-zero s row in
     record {
-      unchanged = λ same. r .unchanged (all x ∙ same ∙ sym (all y));
+      unchanged = λ sound same. r .unchanged sound (all x ∙ same ∙ sym (all y));
       changed = λ apart. r .changed (λ same. apart (sym (all x) ∙ same ∙ all y));
+      dead = r .dead;
     }
 
 pub coarseClaim : CoarseClaim
 coarseClaim s t calls still i h near =
     let z = log s calls .skip in
-    detectionClaim s t calls .verdict still i h (le-trans (floors-nearer z s (wroteAt s calls i) (standsAt s calls i)) near)
+    detectionClaim s t calls .verdict (unmarkedClaim s calls still) i h (le-trans (floors-nearer z s (wroteAt s calls i) (standsAt s calls i)) near)
 
 pub demandClaim : DemandClaim
 demandClaim s t calls fine =
     let d = detectionClaim s t calls in
-    let length = ap (λ z. lookups z s) fine ∙ whole-length s in
+    let length = ap (λ z. cycleSteps z s) fine ∙ ap suc (whole-length s) in
     record {
       open-below = λ e. rw length at (d .open-below e);
       ended-at = λ e. d .ended-at e ∙ length;
-      verdict = λ still i h near. whole-rows _ fine s _ _ _ (coarseClaim s t calls still i h near);
+      verdict = λ still i h near. whole-rows _ fine s _ _ _ _ (coarseClaim s t calls still i h near);
     }
 
 pub levelsClaim : LevelsClaim

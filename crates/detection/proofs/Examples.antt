@@ -3,37 +3,55 @@ use mathlib.Core.Path.{refl}
 use Rattle.parity.specs.Shape.{digit, levels, largest, limit, redundancy, checks, columns}
 use Rattle.parity.specs.Matrix.{weight, ofWeight, columnOrder, eligible, ruleColumns, checkColumns, matrix, support, matrixOnes, lookups}
 use Rattle.parity.specs.Codeword.{number, checkDigit, checkCell, encode}
-use Rattle.parity.specs.Match.{matchByte, taskVector}
-use Rattle.schedule.specs.Schedule.{factors, ofDigit, ofCheck, schedule, unitVector, testVector}
-use Rattle.schedule.specs.Line.{counted, flagged, reset}
+use Rattle.parity.specs.Match.{matchByte, lineMatch, taskVector}
+use Rattle.schedule.specs.Schedule.{factors, ofDigit, ofCheck, tests, schedule, unitVector, testVector}
+use Rattle.schedule.specs.Tally.{counted, flagged, reset}
 use Rattle.shape.specs.Answers.{calling}
 use Rattle.array_memory.specs.Blocks.{blocksOf, blockAt, countFlagged, blockTotals}
 use Rattle.array_memory.specs.Geometry.{rowAt, withRow, rowMatch, matchBytes}
 use Rattle.array_memory.specs.Memory.{cellCount}
-use Rattle.array.specs.Calls.{drifted, driftCall, programmed}
+use Rattle.array.specs.Calls.{drifted, driftCall, lineSet, lineCall, programmed}
 use Rattle.array_lookup.specs.Lookups.{taskMatches, taskCount, lookupCall}
 use Rattle.cycle_place.specs.Places.{entryAt, nextAt, isPlaceOf}
+use Rattle.cycle_lookup.specs.Lookup.{entryMatches, countedRows, flaggedRows, totalledBlocks, resetRows, lookedUp}
 use Rattle.cycle.specs.Record.{cycleAt, isNext}
-use Rattle.cycle.specs.Calls.{zeroRows, cleared, fresh, programCall, started, startCall, countedRows, flaggedRows, resetRows, stepMatches}
-use Rattle.cycle.specs.Calls.{totalledBlocks, steppedMemory, stepped, stepCall}
+use Rattle.cycle.specs.Calls.{zeroRows, cleared, fresh, programCall, started, startCall, stepMatches, steppedMemory, stepped, stepCall}
 use Rattle.cycle.specs.Run.{run}
 use Rattle.detection.specs.Log.{blank, log}
-use Rattle.detection.specs.Examples.{ExamplesClaim, examples, CoarseExamplesClaim, coarseCycle}
+use Rattle.detection.specs.Examples.{ExamplesClaim, examples, LineExamplesClaim, lineExamples, CoarseExamplesClaim, coarseCycle, OpeningExampleClaim}
 
 pub examplesClaim : ExamplesClaim
 unfolding
     examples run log blank calling zeroRows cleared fresh programCall driftCall lookupCall startCall stepCall started stepped steppedMemory drifted programmed
-    taskMatches taskCount countedRows flaggedRows totalledBlocks resetRows stepMatches entryAt nextAt isPlaceOf cycleAt isNext cellCount blocksOf blockAt
-    countFlagged blockTotals rowAt withRow rowMatch matchBytes counted flagged reset factors ofDigit ofCheck schedule unitVector testVector matchByte taskVector
+    taskMatches taskCount entryMatches countedRows flaggedRows totalledBlocks resetRows lookedUp stepMatches entryAt nextAt isPlaceOf cycleAt isNext cellCount blocksOf blockAt
+    countFlagged blockTotals rowAt withRow rowMatch matchBytes counted flagged reset factors ofDigit ofCheck tests schedule unitVector testVector matchByte lineMatch taskVector
     number checkDigit checkCell encode weight ofWeight columnOrder eligible ruleColumns checkColumns matrix support matrixOnes lookups
     digit levels largest limit redundancy checks columns
 examplesClaim = refl
 
+pub lineExamplesClaim : LineExamplesClaim
+unfolding
+    lineExamples run log blank calling zeroRows cleared fresh lineCall startCall stepCall started stepped steppedMemory lineSet
+    entryMatches countedRows flaggedRows totalledBlocks resetRows lookedUp stepMatches entryAt nextAt isPlaceOf cycleAt isNext cellCount blocksOf blockAt
+    countFlagged blockTotals rowAt rowMatch matchBytes counted flagged reset factors ofDigit ofCheck tests schedule unitVector testVector matchByte
+    lineMatch weight ofWeight columnOrder eligible ruleColumns checkColumns matrix support matrixOnes lookups
+    digit levels largest limit redundancy checks columns
+lineExamplesClaim = refl
+
 pub coarseExamplesClaim : CoarseExamplesClaim
 unfolding
     coarseCycle run log blank calling zeroRows cleared fresh programCall driftCall startCall stepCall started stepped steppedMemory drifted programmed
-    countedRows flaggedRows totalledBlocks resetRows stepMatches entryAt nextAt isPlaceOf cycleAt isNext cellCount blocksOf blockAt countFlagged
-    blockTotals rowAt withRow rowMatch matchBytes counted flagged reset factors ofDigit ofCheck schedule unitVector testVector matchByte
+    entryMatches countedRows flaggedRows totalledBlocks resetRows lookedUp stepMatches entryAt nextAt isPlaceOf cycleAt isNext cellCount blocksOf blockAt countFlagged
+    blockTotals rowAt withRow rowMatch matchBytes counted flagged reset factors ofDigit ofCheck tests schedule unitVector testVector matchByte lineMatch
     number checkDigit checkCell encode weight ofWeight columnOrder eligible ruleColumns checkColumns matrix support matrixOnes lookups
     digit levels largest limit redundancy checks columns
 coarseExamplesClaim = refl
+
+pub openingExampleClaim : OpeningExampleClaim
+unfolding
+    run calling zeroRows cleared fresh lineCall startCall stepCall started stepped steppedMemory lineSet
+    entryMatches countedRows flaggedRows totalledBlocks resetRows lookedUp stepMatches entryAt nextAt isPlaceOf cycleAt isNext cellCount blocksOf blockAt
+    countFlagged blockTotals rowAt rowMatch matchBytes counted flagged reset factors ofDigit ofCheck tests schedule unitVector testVector matchByte
+    lineMatch weight ofWeight columnOrder eligible ruleColumns checkColumns matrix support matrixOnes lookups
+    digit levels largest limit redundancy checks columns
+openingExampleClaim = record { refused = refl; matches = refl; flags = refl; counters = refl; count = refl }

@@ -1,16 +1,17 @@
 -- Every call, taken or refused, keeps the agreement of state and log; so does every list of calls. Assumes nothing.
-use mathlib.Core.Path.{_≡_, refl, sym, _∙_}
+use mathlib.Core.Path.{_≡_, refl, sym, ap, subst, _∙_}
 use mathlib.Core.Logic.{_≢_}
 use mathlib.Core.Bool.{Bool, true, false, cond, _&&_, true≢false}
 use mathlib.Core.List.{List, []}
 use Prim.Native.Nat.{ℕ, zero, suc, _+_, _*_, _<_}
-use native.Mathlib.Nat.{le-of-eq}
+use native.Mathlib.Nat.{le-of-eq, zero-lt-suc}
 use native.Mathlib.Omega.{arith}
 use lib.Dec.{eqb, ltb}
 use lib.ListN.{length, getD, set, length-set}
+use lib.Seq.{set-getD}
 use borrow.Author.Tests.{eqb-true, eqb-false, ltb-true}
 use Rattle.parity.specs.Shape.{levels, columns}
-use Rattle.parity.specs.Matrix.{lookups}
+use Rattle.parity.specs.Matrix.{lookups, cycleSteps}
 use Rattle.parity.specs.Codeword.{Codeword, encode}
 use Rattle.parity.specs.Questions.{Taken, firstNo, ifTaken}
 use Rattle.parity.specs.declared.Shape.{Shape}
@@ -18,22 +19,24 @@ use Rattle.parity.proofs.Encoding.{encodedClaim}
 use Rattle.shape.specs.Answers.{accepted, refused, giving, calling}
 use Rattle.shape.proofs.Calling.{call-done}
 use Rattle.array_memory.specs.Geometry.{withRow}
-use Rattle.array_memory.specs.Memory.{Memory, Sized, withCells}
-use Rattle.array_memory.specs.Questions.{cellsQuestions, programArguments, driftArguments}
-use Rattle.array.specs.Calls.{programmed, drifted, driftCall}
+use Rattle.array_memory.specs.Memory.{Memory, Sized, withCells, withLines}
+use Rattle.array_memory.specs.Questions.{cellsQuestions, programArguments, driftArguments, lineArguments}
+use Rattle.array.specs.Calls.{programmed, drifted, driftCall, lineSet, lineCall}
+use Rattle.array_memory.proofs.RowPlaces.{row-cell}
 use Rattle.array_memory.proofs.Asked.{Programs, program-reads, Drifts, drift-reads, rows-kept}
 use Rattle.array_lookup.specs.Lookups.{lookupArguments, taskMatches, taskCount, lookupCall}
+use Rattle.cycle_lookup.specs.Lookup.{lookedUp}
 use Rattle.cycle.specs.Record.{idle, isNext}
 use Rattle.cycle.specs.Calls.{State, stateOf, zeroRows, cleared, fresh, clearCall, programCall, started, steppedMemory, stepped}
-use Rattle.cycle.specs.Run.{Call, clear, start, program, drift, lookup, step, after, runFrom}
-use Rattle.cycle.proofs.Asked.{clear-asked, cells-asked}
-use Rattle.cycle.proofs.CycleRecord.{lookups-some, stands-at, stands-next, next-idle, next-open, next-complete}
+use Rattle.cycle.specs.Run.{Call, clear, start, program, drift, line, lookup, step, after, runFrom}
+use Rattle.cycle.proofs.Asked.{clear-asked, cells-asked, line-asked}
+use Rattle.cycle.proofs.CycleRecord.{stands-at, stands-next, next-idle, next-open, next-complete}
 use Rattle.cycle.proofs.Runs.{run-keeps}
-use Rattle.cycle.proofs.Steps.{started-lines, started-sized, start-state, stepped-lines, stepped-cycle, stepped-sized, step-state}
-use Rattle.detection.specs.Log.{Course, none, open-cycle, ended, Log, logProgram, logDrift, logStart, logStep, whileOpen, logCall, logFrom}
+use Rattle.cycle.proofs.Steps.{started-tallies, started-sized, start-state, stepped-tallies, stepped-cycle, stepped-sized, step-state}
+use Rattle.detection.specs.Log.{Course, none, open-cycle, ended, Log, logProgram, changedBy, logDrift, logLine, logStart, logStep, whileOpen, logCall, logFrom}
 use Rattle.detection.proofs.Elements.{all-set, at-set}
 use Rattle.detection.proofs.Rows.{flat-with, flat-set}
-use Rattle.detection.proofs.Agreement.{Cells, codeword-cells, RowsAgree, Running, InCourse, Agrees, wide, standing-row, sized, agrees-fresh}
+use Rattle.detection.proofs.Agreement.{Cells, codeword-cells, RowsAgree, Running, InCourse, Agrees, wide, standing-row, row-stands, sized, agrees-fresh}
 
 -- ---- the rows
 
@@ -73,16 +76,26 @@ module _ (s : Shape) (cells : List ℕ) (written standing : List (List ℕ)) (r 
 
 -- ---- the calls
 
--- a cell has drifted, so nothing is said of the lines
-blurred : (s : Shape) (st : State) (mem : Memory) (z c : ℕ) (mark : Bool) → Running s st z c mark → Running s (stateOf mem (st .cycle)) z c true
-blurred s st mem z c mark r = record { partial = r .partial; stands = r .stands; lines = λ off. absurd (true≢false off) }
+-- a byte has become another, so nothing is said of the tallies
+blurred : (s : Shape) (st : State) (mem : Memory) (z c : ℕ) (changed : Bool) → Running s st z c changed → Running s (stateOf mem (st .cycle)) z c true
+blurred s st mem z c changed r = record { partial = r .partial; stands = r .stands; tallies = λ off. absurd (true≢false off) }
 
 marked :
-    (s : Shape) (st : State) (mem : Memory) (k : Course) (z c : ℕ) (mark : Bool) → InCourse s st k z c mark
+    (s : Shape) (st : State) (mem : Memory) (k : Course) (z c : ℕ) (changed : Bool) → InCourse s st k z c changed
     → InCourse s (stateOf mem (st .cycle)) k z c true
-marked s st mem none z c mark f = f
-marked s st mem open-cycle z c mark f = (blurred s st mem z c mark (f .0), f .1)
-marked s st mem ended z c mark f = (blurred s st mem z c mark (f .0), f .1)
+marked s st mem none z c changed f = f
+marked s st mem open-cycle z c changed f = (blurred s st mem z c changed (f .0), f .1)
+marked s st mem ended z c changed f = (blurred s st mem z c changed (f .0), f .1)
+
+-- .. and a byte that is set to what it was leaves the memory
+course-set :
+    (s : Shape) (st : State) (mem : Memory) (k : Course) (z c : ℕ) (changed : Bool) (old new : ℕ) → (old ≡ new → mem ≡ st .memory)
+    → InCourse s st k z c changed → InCourse s (stateOf mem (st .cycle)) k z c (changedBy old new changed)
+course-set s st mem k z c changed old new same f = go (eqb old new) refl
+  where
+    go : (b : Bool) → eqb old new ≡ b → InCourse s (stateOf mem (st .cycle)) k z c (cond b changed true)
+    go true e = subst (λ mem. InCourse s (stateOf mem (st .cycle)) k z c changed) (sym (same (eqb-true old new e))) f
+    go false e = marked s st mem k z c changed f
 
 module _ (s : Shape) (t : Taken s) (st : State) (l : Log) (a : Agrees s st l) where
   agrees-clear : Agrees s (after s st clear) (logCall s l clear)
@@ -95,8 +108,10 @@ module _ (s : Shape) (t : Taken s) (st : State) (l : Log) (a : Agrees s st l) wh
       let lent : Sized s (started s st z .memory) = started-sized s st (sized s st l a) z in
       record {
         rows = a .rows;
+        lines = a .lines;
+        lineCount = a .lineCount;
         rest = lent .rows;
-        course = (record { partial = h; stands = stands-at z s 0 _ refl; lines = λ off. started-lines s st z }, lookups-some z s t h);
+        course = (record { partial = h; stands = stands-at z s 0 _ refl; tallies = λ off. started-tallies s st z }, zero-lt-suc (lookups z s));
       }
 
   agrees-start : (z : ℕ) → Agrees s (after s st (start z)) (logCall s l (start z))
@@ -120,10 +135,26 @@ module _ (s : Shape) (t : Taken s) (st : State) (l : Log) (a : Agrees s st l) wh
       go zero e =
           record {
             rows = rows-programmed s _ _ _ (a .rows) t row given (program-reads s row given e);
-            rest = rows-kept s (st .memory) (a .rest) _;
+            lines = a .lines;
+            lineCount = a .lineCount;
+            rest = rows-kept s (st .memory) (a .rest) _ _;
             course = record { phase = refl; count = (refl, refl); skip = (refl, refl) };
           }
       go (suc n) e = a
+
+  -- a cell or a line that is set to what it was
+  drift-same :
+      (row column level : ℕ) → Drifts s row column level → getD (getD (l .standing) row []) column 0 ≡ level
+      → set (st .memory .cells) (row * columns s + column) level ≡ st .memory .cells
+  drift-same row column level d same =
+      let place : ℕ = row * columns s + column in
+      let stood : getD (st .memory .cells) place 0 ≡ level =
+      sym (row-cell s (st .memory .cells) row column (d .within)) ∙ ap (λ r. getD r column 0) (row-stands s _ _ _ (a .rows) row (d .place)) ∙ same in
+      ap (set (st .memory .cells) place) (sym stood) ∙ set-getD (st .memory .cells) place 0
+
+  line-same : (row byte : ℕ) → getD (l .lines) row 0 ≡ byte → set (st .memory .lines) row byte ≡ st .memory .lines
+  line-same row byte same =
+      ap (set (st .memory .lines) row) (sym (ap (λ lines. getD lines row 0) (a .lines) ∙ same)) ∙ set-getD (st .memory .lines) row 0
 
   agrees-drift : (row column level : ℕ) → Agrees s (after s st (drift row column level)) (logCall s l (drift row column level))
   unfolding driftCall calling drifted
@@ -141,15 +172,43 @@ module _ (s : Shape) (t : Taken s) (st : State) (l : Log) (a : Agrees s st l) wh
       go zero e =
           record {
             rows = rows-drifted s _ _ _ (a .rows) row column level (drift-reads s row column level e);
-            rest = rows-kept s (st .memory) (a .rest) _;
-            course = marked s st _ (l .course) (l .skip) (l .count) (l .mark) (a .course);
+            lines = a .lines;
+            lineCount = a .lineCount;
+            rest = rows-kept s (st .memory) (a .rest) _ _;
+            course =
+                course-set s st _ (l .course) (l .skip) (l .count) (l .changed) (getD (getD (l .standing) row []) column 0) level
+                (λ same. ap (λ cells. withCells cells (st .memory)) (drift-same row column level (drift-reads s row column level e) same)) (a .course);
           }
       go (suc n) e = a
+
+  agrees-line : (row byte : ℕ) → Agrees s (after s st (line row byte)) (logCall s l (line row byte))
+  unfolding lineCall calling lineSet
+  agrees-line row byte = rw (after, line-asked s t st (sized s st l a) row byte) (go (firstNo (lineArguments s row byte)))
+    where
+      go :
+          (n : ℕ)
+          → Agrees s
+          (stateOf
+          (ifTaken n (giving (accepted 0) [] (withLines (set (st .memory .lines) row byte) (st .memory))) (giving (refused 0 n) [] (st .memory)) .state)
+          (st .cycle))
+          (ifTaken n (logLine row byte l) l)
+      go zero =
+          record {
+            rows = a .rows;
+            lines = ap (λ lines. set lines row byte) (a .lines);
+            lineCount = length-set (st .memory .lines) row byte ∙ a .lineCount;
+            rest = rows-kept s (st .memory) (a .rest) _ _;
+            course =
+                course-set s st _ (l .course) (l .skip) (l .count) (l .changed) (getD (l .lines) row 0) byte
+                (λ same. ap (λ lines. withLines lines (st .memory)) (line-same row byte same)) (a .course);
+          }
+      go (suc n) = a
 
   -- a lookup, taken or refused, leaves the state
   agrees-lookup : (inputs matches : List ℕ) → Agrees s (after s st (lookup inputs matches)) l
   unfolding lookupCall calling
-  agrees-lookup inputs matches = go (firstNo (cellsQuestions s (length (st .memory .cells)) (lookupArguments s (length matches) inputs)))
+  agrees-lookup inputs matches =
+      go (firstNo (cellsQuestions s (length (st .memory .cells)) (lookupArguments s (length (st .memory .lines)) (length matches) inputs)))
     where
       go :
           (n : ℕ)
@@ -162,35 +221,41 @@ module _ (s : Shape) (t : Taken s) (st : State) (l : Log) (a : Agrees s st l) wh
       go zero = a
       go (suc n) = a
 
-  agrees-stepped : Running s st (l .skip) (l .count) (l .mark) → l .count < lookups (l .skip) s → Agrees s (stepped s st) (logStep s l)
-  unfolding stepped steppedMemory
+  agrees-stepped : Running s st (l .skip) (l .count) (l .changed) → l .count < cycleSteps (l .skip) s → Agrees s (stepped s st) (logStep s l)
+  unfolding stepped steppedMemory lookedUp
   agrees-stepped r h =
       let z : Sized s (stepped s st .memory) = stepped-sized s st (sized s st l a) in
-      record { rows = a .rows; rest = z .rows; course = go (eqb (suc (l .count)) (lookups (l .skip) s)) refl }
+      record {
+        rows = a .rows;
+        lines = a .lines;
+        lineCount = a .lineCount;
+        rest = z .rows;
+        course = go (eqb (suc (l .count)) (cycleSteps (l .skip) s)) refl;
+      }
     where
-      next : Running s (stepped s st) (l .skip) (suc (l .count)) (l .mark)
+      next : Running s (stepped s st) (l .skip) (suc (l .count)) (l .changed)
       next =
           record {
             partial = r .partial;
             stands = stands-at (l .skip) s (suc (l .count)) _ (stepped-cycle s st (l .skip) (l .count) (r .stands .skip) (r .stands .count));
-            lines = λ off. stepped-lines s st t (l .skip) (l .count) h (r .stands .skip) (r .stands .count) (r .lines off);
+            tallies = λ off. stepped-tallies s st t (l .skip) (l .count) h (r .stands .skip) (r .stands .count) (r .tallies off);
           }
 
       go :
-          (b : Bool) → eqb (suc (l .count)) (lookups (l .skip) s) ≡ b
-          → InCourse s (stepped s st) (cond b ended open-cycle) (l .skip) (suc (l .count)) (l .mark)
+          (b : Bool) → eqb (suc (l .count)) (cycleSteps (l .skip) s) ≡ b
+          → InCourse s (stepped s st) (cond b ended open-cycle) (l .skip) (suc (l .count)) (l .changed)
       go true e = (next, eqb-true _ _ e)
       go false e =
-          let apart : suc (l .count) ≢ lookups (l .skip) s = eqb-false _ _ e in
+          let apart : suc (l .count) ≢ cycleSteps (l .skip) s = eqb-false _ _ e in
           (next, omega arith)
 
   -- the record has a lookup to come exactly where the log's cycle is open
   while-open :
-      (k : Course) → InCourse s st k (l .skip) (l .count) (l .mark)
+      (k : Course) → InCourse s st k (l .skip) (l .count) (l .changed)
       → Agrees s (cond (isNext s (st .cycle)) (stepped s st) st) (whileOpen k (logStep s l) l)
   while-open none f = rw (next-idle s (st .cycle) (f .phase)) a
   while-open open-cycle f =
-      rw (stands-next (l .skip) s (l .count) (st .cycle) (f .0 .stands) ∙ next-open (l .skip) s t (l .count) (f .1)) (agrees-stepped (f .0) (f .1))
+      rw (stands-next (l .skip) s (l .count) (st .cycle) (f .0 .stands) ∙ next-open (l .skip) s t (l .count) (f .0 .partial) (f .1)) (agrees-stepped (f .0) (f .1))
   while-open ended f =
       rw (stands-next (l .skip) s (l .count) (st .cycle) (f .0 .stands) ∙ next-complete (l .skip) s t (l .count) (le-of-eq (sym (f .1)))) a
 
@@ -208,6 +273,7 @@ module _ (s : Shape) (t : Taken s) (st : State) (l : Log) (a : Agrees s st l) wh
   agrees-call (start z) = agrees-start z
   agrees-call (program row given) = agrees-program row given
   agrees-call (drift row column level) = agrees-drift row column level
+  agrees-call (line row byte) = agrees-line row byte
   agrees-call (lookup inputs matches) = agrees-lookup inputs matches
   agrees-call (step matches) = agrees-step matches
 

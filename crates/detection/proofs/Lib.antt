@@ -6,6 +6,7 @@ pub mod Course
 pub mod Still
 pub mod Agreement
 pub mod Keeping
+pub mod Marks
 pub mod Detection
 pub mod Shutdown
 pub mod Examples

@@ -1,8 +1,8 @@
--- December's shutdown: after a cycle without drift that skips no digit, programming every flagged row again from what was last written restores
+-- December's shutdown: after a cycle in which nothing has changed, that skips no digit, and with sound lines, programming every flagged row again from what was last written restores
 -- every row within τ cells of it, and a whole cycle more flags no row. Assumes nothing.
-use mathlib.Core.Path.{_≡_, refl, sym, ap, _∙_}
+use mathlib.Core.Path.{_≡_, refl, sym, ap, ap₂, _∙_}
 use mathlib.Core.Logic.{⊎-elim}
-use mathlib.Core.Bool.{Bool, true, false, cond}
+use mathlib.Core.Bool.{Bool, true, false, cond, _&&_, and-eq-true-iff}
 use mathlib.Core.List.{List, [], _∷_, _++_}
 use Prim.Native.Nat.{ℕ, zero, suc, _≤_, _<_}
 use native.Mathlib.Nat.{eq-or-lt-of-le}
@@ -10,12 +10,12 @@ use native.Mathlib.Omega.{arith}
 use lib.Dec.{eqb}
 use lib.ListN.{length, getD, take, replicate}
 use lib.Seq.{length-take-le, getD-take}
-use borrow.Author.Tests.{eqb-true}
+use borrow.Author.Tests.{eqb-true, eq-eqb}
 use Rattle.parity.specs.Lists.{joined, differences}
 use Rattle.parity.specs.Shape.{columns}
-use Rattle.parity.specs.Matrix.{lookups}
-use Rattle.parity.specs.Codeword.{Codeword, encode}
-use Rattle.parity.specs.Questions.{Taken}
+use Rattle.parity.specs.Matrix.{cycleSteps}
+use Rattle.parity.specs.Codeword.{Codeword, isCodeword, encode}
+use Rattle.parity.specs.Questions.{Taken, firstNo, ifTaken}
 use Rattle.parity.specs.declared.Shape.{Shape}
 use Rattle.parity.proofs.ListLaws.{tabulate-same, tabulate-constant}
 use Rattle.parity.proofs.CodewordTest.{codeword-test}
@@ -25,10 +25,11 @@ use Rattle.schedule.specs.Coarse.{isBalancedFrom}
 use Rattle.schedule.proofs.Balanced.{codeword-balanced}
 use Rattle.cycle.specs.Calls.{State, fresh}
 use Rattle.cycle.specs.Run.{Call, start, program, runFrom, run}
-use Rattle.detection.specs.Log.{ended, Log, blank, logCall, logFrom, log}
+use Rattle.detection.specs.Log.{ended, Log, blank, logProgram, logCall, logFrom, log}
 use Rattle.detection.specs.Claims.{stepsWith, Buffers, repair, ShutdownClaim}
 use Rattle.detection.proofs.Elements.{at-set}
 use Rattle.cycle.proofs.Runs.{followed-append, run-append}
+use Rattle.array_memory.specs.Questions.{programArguments}
 use Rattle.array_memory.proofs.Asked.{Programs, program-fits}
 use Rattle.detection.proofs.Still.{stillClaim}
 use Rattle.detection.proofs.Agreement.{Agrees, sized, cells-below, written-row, row-stands}
@@ -43,15 +44,18 @@ flag-zero : (b : Bool) → _≡_ {A = ℕ} (cond b 0 1) 0 → b ≡ true
 flag-zero true e = refl
 flag-zero false e = absurd (omega arith)
 
--- where all rows as they stand are sound, a cycle flags none
+-- where all lines and all rows as they stand are sound, a cycle flags none
 sound-cycle :
-    (s : Shape) → Taken s → (st : State) (l : Log) → Agrees s st l → ((i : ℕ) → i < s .rows → Codeword s (getD (l .standing) i []))
-    → (z : ℕ) → z < s .digits → (buffers : List (List ℕ)) → Buffers s buffers → length buffers ≡ lookups z s
+    (s : Shape) → Taken s → (st : State) (l : Log) → Agrees s st l → ((i : ℕ) → i < s .rows → getD (l .lines) i 0 ≡ 0)
+    → ((i : ℕ) → i < s .rows → Codeword s (getD (l .standing) i []))
+    → (z : ℕ) → z < s .digits → (buffers : List (List ℕ)) → Buffers s buffers → length buffers ≡ cycleSteps z s
     → runFrom s st (start z ∷ stepsWith buffers) .memory .flags ≡ replicate (s .rows) 0
-sound-cycle s t st l a sound z lt buffers made whole =
+sound-cycle s t st l a lines sound z lt buffers made whole =
     stillClaim z s t lt st (sized s st l a) (cells-below s _ _ _ (a .rows)) buffers made whole
     ∙ tabulate-same (s .rows) _ (λ i. 0)
-    (λ i h. ap (λ b. cond b 0 1) (ap (isBalancedFrom z s) (row-stands s _ _ _ (a .rows) i h) ∙ codeword-balanced z s _ (sound i h)))
+    (λ i h.
+    ap₂ (λ a b. cond (a && b) 0 1) (eq-eqb _ 0 (ap (λ lines. getD lines i 0) (a .lines) ∙ lines i h))
+    (ap (isBalancedFrom z s) (row-stands s _ _ _ (a .rows) i h) ∙ codeword-balanced z s _ (sound i h)))
     ∙ tabulate-constant (s .rows) 0
 
 module _ (s : Shape) (t : Taken s) (st : State) (l : Log) (a : Agrees s st l) where
@@ -78,13 +82,15 @@ module _ (s : Shape) (t : Taken s) (st : State) (l : Log) (a : Agrees s st l) wh
     again-same = sym (encodingClaim s t (wrote i) (wrote-sound .sized) .0 wrote-sound .0)
 
   module _
-      (e : l .course ≡ ended) (fine : l .skip ≡ 0) (off : l .mark ≡ false)
+      (e : l .course ≡ ended) (fine : l .skip ≡ 0) (off : l .changed ≡ false) (lines : (i : ℕ) → i < s .rows → getD (l .lines) i 0 ≡ 0)
       (near : (i : ℕ) → i < s .rows → differences (wrote i) (getD (l .standing) i []) ≤ s .errors) where
     -- a row that is not flagged is sound, and so it is the one that was written
     unflagged-same : (i : ℕ) → i < s .rows → getD (st .memory .flags) i 0 ≡ 0 → getD (l .standing) i [] ≡ wrote i
     unflagged-same i h zero-flag =
         let standing : List ℕ = getD (l .standing) i [] in
-        let sound : Codeword s standing = codeword-test s standing (flag-zero _ (sym (ended-sound s t st l a e fine off i h) ∙ zero-flag)) in
+        let sound : Codeword s standing = codeword-test s standing
+        (and-eq-true-iff (eqb (getD (l .lines) i 0) 0) (isCodeword s standing) .0
+        (flag-zero _ (sym (ended-sound s t st l a e fine off i h) ∙ zero-flag)) .1) in
         sym (distanceClaim s t (wrote i) standing (wrote-sound i h) sound (near i h))
 
     -- the repair of the first n rows
@@ -120,25 +126,44 @@ module _ (s : Shape) (t : Taken s) (st : State) (l : Log) (a : Agrees s st l) wh
     restored-row : (i : ℕ) → i < s .rows → getD (logFrom s l (part (s .rows)) .standing) i [] ≡ wrote i
     restored-row i h = repaired (s .rows) (omega arith) i h (λ past. absurd (omega arith))
 
+    -- programming leaves the lines
+    repaired-lines : (n : ℕ) → logFrom s l (part n) .lines ≡ l .lines
+    repaired-lines zero = refl
+    repaired-lines (suc n) = rw (log-append s (part n) _ l) (go (eqb (getD (st .memory .flags) n 0) 0) ∙ repaired-lines n)
+      where
+        given : List ℕ
+        given = take (s .width) (wrote n)
+
+        before : Log
+        before = logFrom s l (part n)
+
+        either : (n′ : ℕ) → ifTaken n′ (logProgram s n given before) before .lines ≡ before .lines
+        either zero = refl
+        either (suc n′) = refl
+
+        go : (b : Bool) → logFrom s before (cond b [] (program n given ∷ [])) .lines ≡ before .lines
+        go true = refl
+        go false = either (firstNo (programArguments s n given))
+
     quiet-cycle :
-        (z : ℕ) → z < s .digits → (buffers : List (List ℕ)) → Buffers s buffers → length buffers ≡ lookups z s
+        (z : ℕ) → z < s .digits → (buffers : List (List ℕ)) → Buffers s buffers → length buffers ≡ cycleSteps z s
         → runFrom s (runFrom s st (part (s .rows))) (start z ∷ stepsWith buffers) .memory .flags ≡ replicate (s .rows) 0
     quiet-cycle =
         let repairs : List Call = part (s .rows) in
         sound-cycle s t (runFrom s st repairs) (logFrom s l repairs) (agrees-run s t repairs st l a)
-        (λ i h. rw (restored-row i h) (wrote-sound i h))
+        (λ i h. ap (λ lines. getD lines i 0) (repaired-lines (s .rows)) ∙ lines i h) (λ i h. rw (restored-row i h) (wrote-sound i h))
 
 pub shutdownClaim : ShutdownClaim
 unfolding run log
-shutdownClaim s t calls (is, off) fine near z lt buffers made whole =
+shutdownClaim s t calls (is, off) fine lines near z lt buffers made whole =
     let st : State = run s calls in
     let l : Log = log s calls in
     let a : Agrees s st l = agrees s t calls in
     let repairs : List Call = repair s (st .memory .flags) (l .written) in
     let cycle : List Call = start z ∷ stepsWith buffers in
     record {
-      restored = λ i h. ap (λ k. getD (k .standing) i []) (log-append s calls repairs (blank s)) ∙ restored-row s t st l a is fine off near i h;
+      restored = λ i h. ap (λ k. getD (k .standing) i []) (log-append s calls repairs (blank s)) ∙ restored-row s t st l a is fine off lines near i h;
       quiet =
           ap (λ k. k .memory .flags) (run-append s (fresh s) (calls ++ repairs) cycle ∙ ap (λ k. runFrom s k cycle) (run-append s (fresh s) calls repairs))
-          ∙ quiet-cycle s t st l a is fine off near z lt buffers made whole;
+          ∙ quiet-cycle s t st l a is fine off lines near z lt buffers made whole;
     }

@@ -1,14 +1,14 @@
 -- Demand 3 as one type, and the theorems beside it; the proofs are in proofs/.
 use mathlib.Core.Path.{_≡_}
-use mathlib.Core.Logic.{_↔_}
-use mathlib.Core.Bool.{true, false, cond}
+use mathlib.Core.Logic.{_↔_, _≢_}
+use mathlib.Core.Bool.{true, false, cond, _&&_}
 use mathlib.Core.List.{List, [], _∷_, _++_, map}
-use Prim.Native.Nat.{ℕ, _-_, _*_, _≤_, _<_}
+use Prim.Native.Nat.{ℕ, suc, _-_, _*_, _≤_, _<_}
 use lib.Dec.{eqb}
 use lib.ListN.{length, getD, take, replicate}
 use Rattle.parity.specs.Lists.{tabulate, joined, differences}
 use Rattle.parity.specs.Shape.{levels, columns}
-use Rattle.parity.specs.Matrix.{matrixOnes, lookups}
+use Rattle.parity.specs.Matrix.{matrixOnes, cycleSteps}
 use Rattle.parity.specs.Codeword.{isCodeword}
 use Rattle.parity.specs.Questions.{Taken}
 use Rattle.parity.specs.declared.Shape.{Shape}
@@ -34,64 +34,79 @@ phaseOf none = Idle
 phaseOf open-cycle = Open
 phaseOf ended = Complete
 
--- flag 0 where what is seen of the two forms of a row is equal, and 1 where it is not
-pub record RightFlag (written standing : List ℕ) (flag : ℕ) : Type 0 where
-  pub unchanged : written ≡ standing → flag ≡ 0
+-- flag 0 where a row's line is sound and what is seen of its two forms is equal, and 1 where the line is dead or what is seen differs
+pub record RightFlag (line : ℕ) (written standing : List ℕ) (flag : ℕ) : Type 0 where
+  pub unchanged : line ≡ 0 → written ≡ standing → flag ≡ 0
   pub changed : (written ≡ standing → ⊥) → flag ≡ 1
+  pub dead : line ≢ 0 → flag ≡ 1
 
--- row i after a list of calls: as written, as it stands, and its flag
+-- row i after a list of calls: as written, as it stands, its line, and its flag
 abbrev pub wroteAt : Shape → List Call → ℕ → List ℕ
 wroteAt s calls i = getD (log s calls .written) i []
 
 abbrev pub standsAt : Shape → List Call → ℕ → List ℕ
 standsAt s calls i = getD (log s calls .standing) i []
 
+abbrev pub lineAt : Shape → List Call → ℕ → ℕ
+lineAt s calls i = getD (log s calls .lines) i 0
+
 abbrev pub flagAt : Shape → List Call → ℕ → ℕ
 flagAt s calls i = getD (run s calls .memory .flags) i 0
 
--- a cycle has ended with the mark off: no accepted drift fell between its start and its last step, nor since
+-- a cycle has ended, and no cell and no line has become another between its start and its last step, nor since
+abbrev pub EndedStill : Shape → List Call → Type 0
+EndedStill s calls = (log s calls .course ≡ ended) × (log s calls .changed ≡ false)
+
+-- a cycle has ended with document 01's mark off: no accepted drift or line setting fell between its start and its last step, nor since
 abbrev pub EndedUnmarked : Shape → List Call → Type 0
 EndedUnmarked s calls = (log s calls .course ≡ ended) × (log s calls .mark ≡ false)
 
--- After a list of calls the cells are the rows as they stand, and the record is idle, open or complete as the log's cycle is none, open or
--- ended, with the log's count and the log's z. A cycle ends exactly at its accepted step (q / ρ^z − 1) × W: the count is that number where it has
--- ended and below it where it is open. And where a cycle has ended with the mark off, each row of whose cells at most τ differ between its two
--- forms in floor(level / ρ^z) has flag 0 if none does and 1 if some do.
+-- After a list of calls the cells are the rows as they stand, the lines are the log's, and the record is idle, open or complete as the log's cycle is
+-- none, open or ended, with the log's count and the log's z. A cycle ends exactly at its accepted step 1 + (q / ρ^z − 1) × W: the count is that number
+-- where it has ended and below it where it is open. And where a cycle has ended and nothing has changed since its start, each row of whose cells at most
+-- τ differ between its two forms in floor(level / ρ^z) has flag 0 if none does and its line is sound, and 1 if some do or its line is dead. A row with a
+-- dead line has flag 1 however many cells differ.
 pub record Detects (s : Shape) (calls : List Call) : Type 0 where
   pub cells : run s calls .memory .cells ≡ flat (log s calls .standing)
+  pub lines : run s calls .memory .lines ≡ log s calls .lines
   pub phase : run s calls .cycle .phase ≡ phaseOf (log s calls .course)
   pub count : run s calls .cycle .count ≡ log s calls .count
   pub skip : run s calls .cycle .skip ≡ log s calls .skip
-  pub open-below : log s calls .course ≡ open-cycle → run s calls .cycle .count < lookups (log s calls .skip) s
-  pub ended-at : log s calls .course ≡ ended → run s calls .cycle .count ≡ lookups (log s calls .skip) s
+  pub open-below : log s calls .course ≡ open-cycle → run s calls .cycle .count < cycleSteps (log s calls .skip) s
+  pub ended-at : log s calls .course ≡ ended → run s calls .cycle .count ≡ cycleSteps (log s calls .skip) s
   pub verdict :
-      EndedUnmarked s calls → (i : ℕ) → i < s .rows → let z = log s calls .skip in
+      EndedStill s calls → (i : ℕ) → i < s .rows → let z = log s calls .skip in
       differences (floors z s (wroteAt s calls i)) (floors z s (standsAt s calls i)) ≤ s .errors
-      → RightFlag (floors z s (wroteAt s calls i)) (floors z s (standsAt s calls i)) (flagAt s calls i)
+      → RightFlag (lineAt s calls i) (floors z s (wroteAt s calls i)) (floors z s (standsAt s calls i)) (flagAt s calls i)
+  pub dead : EndedStill s calls → (i : ℕ) → i < s .rows → lineAt s calls i ≢ 0 → flagAt s calls i ≡ 1
 
 -- Every shape taken, every list of calls.
 abbrev pub DetectionClaim : Type 0
 DetectionClaim = (s : Shape) → Taken s → (calls : List Call) → Detects s calls
 
--- Demand 3's own sentence, of a cycle that skips no digit: it ends exactly at its accepted step (q − 1) × W, and where it has ended with the mark
--- off, each row whose two forms differ in at most τ cells has flag 0 if they are equal and 1 if not.
+-- Where document 01's mark is off nothing has changed, so all of this holds with that mark too.
+abbrev pub UnmarkedClaim : Type 0
+UnmarkedClaim = (s : Shape) (calls : List Call) → EndedUnmarked s calls → EndedStill s calls
+
+-- Demand 3's own sentence, of a cycle that skips no digit, with document 01's mark: it ends exactly at its accepted step 1 + (q − 1) × W, and where it
+-- has ended with the mark off, each row whose two forms differ in at most τ cells has flag 0 if they are equal and its line is sound, and 1 if not.
 pub record DetectsAll (s : Shape) (calls : List Call) : Type 0 where
-  pub open-below : log s calls .course ≡ open-cycle → run s calls .cycle .count < (levels s - 1) * matrixOnes s
-  pub ended-at : log s calls .course ≡ ended → run s calls .cycle .count ≡ (levels s - 1) * matrixOnes s
+  pub open-below : log s calls .course ≡ open-cycle → run s calls .cycle .count < suc ((levels s - 1) * matrixOnes s)
+  pub ended-at : log s calls .course ≡ ended → run s calls .cycle .count ≡ suc ((levels s - 1) * matrixOnes s)
   pub verdict :
       EndedUnmarked s calls → (i : ℕ) → i < s .rows → differences (wroteAt s calls i) (standsAt s calls i) ≤ s .errors
-      → RightFlag (wroteAt s calls i) (standsAt s calls i) (flagAt s calls i)
+      → RightFlag (lineAt s calls i) (wroteAt s calls i) (standsAt s calls i) (flagAt s calls i)
 
 abbrev pub DemandClaim : Type 0
 DemandClaim = (s : Shape) → Taken s → (calls : List Call) → log s calls .skip ≡ 0 → DetectsAll s calls
 
--- Card 2's sentence, under demand 3's premises: a row whose two forms differ in at most τ cells is flagged exactly when some cell differs in
--- floor(level / ρ^z).
+-- Card 2's sentence and Card 4's, under demand 3's premises: a row whose two forms differ in at most τ cells is flagged exactly when its line is dead or
+-- some cell differs in floor(level / ρ^z).
 abbrev pub CoarseClaim : Type 0
 CoarseClaim =
     (s : Shape) → Taken s → (calls : List Call) → EndedUnmarked s calls → (i : ℕ) → i < s .rows → let z = log s calls .skip in
     differences (wroteAt s calls i) (standsAt s calls i) ≤ s .errors
-    → RightFlag (floors z s (wroteAt s calls i)) (floors z s (standsAt s calls i)) (flagAt s calls i)
+    → RightFlag (lineAt s calls i) (floors z s (wroteAt s calls i)) (floors z s (standsAt s calls i)) (flagAt s calls i)
 
 -- No list makes a cell of q or more.
 abbrev pub LevelsClaim : Type 0
@@ -106,16 +121,16 @@ abbrev pub Buffers : Shape → List (List ℕ) → Type 0
 Buffers s [] = Unit {0}
 Buffers s (buffer ∷ buffers) = (length buffer ≡ s .rows) × Buffers s buffers
 
--- A cycle is complete exactly at its accepted step (q / ρ^z − 1) × W: a start with z and c accepted steps leave the record of c, open below that
--- number and complete at it, whatever stood in counters, flags, record and buffers before, and for every number of rows.
+-- A cycle is complete exactly at its accepted step 1 + (q / ρ^z − 1) × W: a start with z and c accepted steps leave the record of c, open below that
+-- number and complete at it, whatever stood in lines, counters, flags, record and buffers before, and for every number of rows.
 abbrev pub CourseClaim : Type 0
 CourseClaim =
     (z : ℕ) (s : Shape) → Taken s → z < s .digits → (st : State) → Sized s (st .memory)
-    → (buffers : List (List ℕ)) → Buffers s buffers → length buffers ≤ lookups z s
+    → (buffers : List (List ℕ)) → Buffers s buffers → length buffers ≤ cycleSteps z s
     → (runFrom s st (start z ∷ stepsWith buffers) .cycle ≡ cycleAt z s (length buffers))
     × (cycleAt z s (length buffers) .count ≡ length buffers)
-    × ((length buffers < lookups z s) → cycleAt z s (length buffers) .phase ≡ Open)
-    × ((length buffers ≡ lookups z s) → cycleAt z s (length buffers) .phase ≡ Complete)
+    × ((length buffers < cycleSteps z s) → cycleAt z s (length buffers) .phase ≡ Open)
+    × ((length buffers ≡ cycleSteps z s) → cycleAt z s (length buffers) .phase ≡ Complete)
 
 -- Question 9 asks whether the record is one that a start with some z and accepted steps on this shape leave, with a vector still to come.
 abbrev pub QuestionNineClaim : Type 0
@@ -126,35 +141,35 @@ QuestionNineClaim =
     × (z < s .digits)
     × (buffers : List (List ℕ))
     × Buffers s buffers
-    × (length buffers < lookups z s)
+    × (length buffers < cycleSteps z s)
     × (cycle ≡ run s (start z ∷ stepsWith buffers) .cycle))
 
--- On an array that stays still, with all cells below q, a start with z and a whole cycle leave flags that say exactly which rows have a digit sum
--- of some s from z on that isn't 0 mod ρ, whatever counters and flags were before; also beyond τ changed cells. (`isBalancedFrom` is
+-- On an array that stays still, with all cells below q, a start with z and a whole cycle leave flags that say exactly which rows have a dead line or
+-- a digit sum of some s from z on that isn't 0 mod ρ, whatever counters and flags were before; also beyond τ changed cells. (`isBalancedFrom` is
 -- `BalancedFrom` as a test: `BalancedClaim` of schedule.)
 abbrev pub StillClaim : Type 0
 StillClaim =
     (z : ℕ) (s : Shape) → Taken s → z < s .digits → (st : State) → Sized s (st .memory)
     → ((i : ℕ) → i < cellCount s → getD (st .memory .cells) i 0 < levels s)
-    → (buffers : List (List ℕ)) → Buffers s buffers → length buffers ≡ lookups z s
+    → (buffers : List (List ℕ)) → Buffers s buffers → length buffers ≡ cycleSteps z s
     → runFrom s st (start z ∷ stepsWith buffers) .memory .flags
-    ≡ tabulate (s .rows) (λ i. cond (isBalancedFrom z s (rowAt (columns s) (st .memory .cells) i)) 0 1)
+    ≡ tabulate (s .rows) (λ i. cond (eqb (getD (st .memory .lines) i 0) 0 && isBalancedFrom z s (rowAt (columns s) (st .memory .cells) i)) 0 1)
 
--- Where no digit is skipped, they say exactly which rows are not sound. (`isCodeword` is `Codeword` as a test: `CodewordClaim` of parity.)
+-- Where no digit is skipped, they say exactly which rows have a dead line or are not sound. (`isCodeword` is `Codeword` as a test: `CodewordClaim` of parity.)
 abbrev pub StillSoundClaim : Type 0
 StillSoundClaim =
     (s : Shape) → Taken s → (st : State) → Sized s (st .memory) → ((i : ℕ) → i < cellCount s → getD (st .memory .cells) i 0 < levels s)
-    → (buffers : List (List ℕ)) → Buffers s buffers → length buffers ≡ lookups 0 s
+    → (buffers : List (List ℕ)) → Buffers s buffers → length buffers ≡ cycleSteps 0 s
     → runFrom s st (start 0 ∷ stepsWith buffers) .memory .flags
-    ≡ tabulate (s .rows) (λ i. cond (isCodeword s (rowAt (columns s) (st .memory .cells) i)) 0 1)
+    ≡ tabulate (s .rows) (λ i. cond (eqb (getD (st .memory .lines) i 0) 0 && isCodeword s (rowAt (columns s) (st .memory .cells) i)) 0 1)
 
 -- every flagged row programmed again from what was last written
 abbrev pub repair : Shape → List ℕ → List (List ℕ) → List Call
 repair s flags written = joined (s .rows) (λ i. cond (eqb (getD flags i 0) 0) [] (program i (take (s .width) (getD written i [])) ∷ []))
 
--- December's shutdown: after a list whose log is ended with the mark off, its cycle having skipped no digit, and after which every row is within τ
--- cells of its written form, every flagged row is programmed again and a whole cycle is run, with any z. Then every row stands as it was written,
--- and no row is flagged.
+-- December's shutdown: after a list whose cycle has ended and in which nothing has changed since its start, the cycle having skipped no digit, and after
+-- which every line is sound and every row is within τ cells of its written form, every flagged row is programmed again and a whole cycle is run, with any
+-- z. Then every row stands as it was written, and no row is flagged.
 pub record Shutdown (z : ℕ) (s : Shape) (calls : List Call) (buffers : List (List ℕ)) : Type 0 where
   pub restored :
       (i : ℕ) → i < s .rows → standsAt s (calls ++ repair s (run s calls .memory .flags) (log s calls .written)) i ≡ wroteAt s calls i
@@ -164,6 +179,7 @@ pub record Shutdown (z : ℕ) (s : Shape) (calls : List Call) (buffers : List (L
 
 abbrev pub ShutdownClaim : Type 0
 ShutdownClaim =
-    (s : Shape) → Taken s → (calls : List Call) → EndedUnmarked s calls → log s calls .skip ≡ 0
+    (s : Shape) → Taken s → (calls : List Call) → EndedStill s calls → log s calls .skip ≡ 0
+    → ((i : ℕ) → i < s .rows → lineAt s calls i ≡ 0)
     → ((i : ℕ) → i < s .rows → differences (wroteAt s calls i) (standsAt s calls i) ≤ s .errors)
-    → (z : ℕ) → z < s .digits → (buffers : List (List ℕ)) → Buffers s buffers → length buffers ≡ lookups z s → Shutdown z s calls buffers
+    → (z : ℕ) → z < s .digits → (buffers : List (List ℕ)) → Buffers s buffers → length buffers ≡ cycleSteps z s → Shutdown z s calls buffers

@@ -1,42 +1,47 @@
--- Document 01's log of a list of calls, with the digits that a cycle skips (document 02, Card 2). It is fed the shape and the calls alone: of the
--- library it names the shape's sizes, the questions on arguments, the encoded row and the length of a cycle.
+-- Document 01's log of a list of calls, with the digits that a cycle skips (document 02, Card 2) and the lines (Card 4). It is fed the shape and the
+-- calls alone: of the library it names the shape's sizes, the questions on arguments, the encoded row and the length of a cycle.
 use mathlib.Core.Bool.{Bool, true, false, cond}
 use mathlib.Core.List.{List, []}
 use Prim.Native.Nat.{ℕ, suc}
 use lib.Dec.{eqb}
 use lib.ListN.{getD, set, replicate}
 use Rattle.parity.specs.Shape.{columns}
-use Rattle.parity.specs.Matrix.{lookups}
+use Rattle.parity.specs.Matrix.{cycleSteps}
 use Rattle.parity.specs.Codeword.{encode}
 use Rattle.parity.specs.Questions.{firstNo, ifTaken}
 use Rattle.parity.specs.declared.Shape.{Shape}
-use Rattle.array_memory.specs.Questions.{programArguments, driftArguments}
+use Rattle.array_memory.specs.Questions.{programArguments, driftArguments, lineArguments}
 use Rattle.cycle.specs.Calls.{startArguments, stepArguments}
-use Rattle.cycle.specs.Run.{Call, clear, start, program, drift, lookup, step, followed}
+use Rattle.cycle.specs.Run.{Call, clear, start, program, drift, line, lookup, step, followed}
 
 -- the log's cycle: none, open or ended
 pub data Course : Type 0 where
   none open-cycle ended : Course
 
--- Each row in two forms, as written and as it stands; a cycle, and the number z of low digits that it skips; a step count; a drift mark.
+-- Each row in two forms, as written and as it stands, and its line; a cycle, and the number z of low digits that it skips; a step count; and two
+-- marks. Document 01's is on where a drift or a line setting was accepted since the start; the weaker one where a cell or a line has become another.
 pub record Log : Type 0 where
   pub written : List (List ℕ)
   pub standing : List (List ℕ)
+  pub lines : List ℕ
   pub course : Course
   pub skip : ℕ
   pub count : ℕ
   pub mark : Bool
+  pub changed : Bool
 
--- at first, and after a clear: all levels 0, cycle none, count 0, mark off
+-- at first, and after a clear: all levels 0, all lines sound, cycle none, count 0, marks off
 unfoldable pub blank : Shape → Log
 blank s =
     record {
       written = replicate (s .rows) (replicate (columns s) 0);
       standing = replicate (s .rows) (replicate (columns s) 0);
+      lines = replicate (s .rows) 0;
       course = none;
       skip = 0;
       count = 0;
       mark = false;
+      changed = false;
     }
 
 -- a program that is taken: both forms of the row become the k levels and then the check cells that make them sound; cycle none, count 0
@@ -45,11 +50,17 @@ logProgram s row given l =
     record {
       written = set (l .written) row (encode s given);
       standing = set (l .standing) row (encode s given);
+      lines = l .lines;
       course = none;
       skip = 0;
       count = 0;
       mark = l .mark;
+      changed = l .changed;
     }
+
+-- the weaker mark after a byte has been set: to what it was is no change
+abbrev pub changedBy : ℕ → ℕ → Bool → Bool
+changedBy old new changed = cond (eqb old new) changed true
 
 -- a drift that is taken: the cell of the row as it stands takes the level; mark on
 abbrev pub logDrift : ℕ → ℕ → ℕ → Log → Log
@@ -57,26 +68,54 @@ logDrift row column level l =
     record {
       written = l .written;
       standing = set (l .standing) row (set (getD (l .standing) row []) column level);
+      lines = l .lines;
       course = l .course;
       skip = l .skip;
       count = l .count;
       mark = true;
+      changed = changedBy (getD (getD (l .standing) row []) column 0) level (l .changed);
     }
 
--- a start that is taken: cycle open, with its z, count 0, mark off
-abbrev pub logStart : ℕ → Log → Log
-logStart z l = record { written = l .written; standing = l .standing; course = open-cycle; skip = z; count = 0; mark = false }
+-- a line setting that is taken: the row's line takes the byte; mark on
+abbrev pub logLine : ℕ → ℕ → Log → Log
+logLine row byte l =
+    record {
+      written = l .written;
+      standing = l .standing;
+      lines = set (l .lines) row byte;
+      course = l .course;
+      skip = l .skip;
+      count = l .count;
+      mark = true;
+      changed = changedBy (getD (l .lines) row 0) byte (l .changed);
+    }
 
--- a step that is taken: 1 is added to the count; at (q / ρ^z − 1) × W the cycle is ended
+-- a start that is taken: cycle open, with its z, count 0, marks off
+abbrev pub logStart : ℕ → Log → Log
+logStart z l =
+    record {
+      written = l .written;
+      standing = l .standing;
+      lines = l .lines;
+      course = open-cycle;
+      skip = z;
+      count = 0;
+      mark = false;
+      changed = false;
+    }
+
+-- a step that is taken: 1 is added to the count; at 1 + (q / ρ^z − 1) × W the cycle is ended
 abbrev pub logStep : Shape → Log → Log
 logStep s l =
     record {
       written = l .written;
       standing = l .standing;
-      course = cond (eqb (suc (l .count)) (lookups (l .skip) s)) ended open-cycle;
+      lines = l .lines;
+      course = cond (eqb (suc (l .count)) (cycleSteps (l .skip) s)) ended open-cycle;
       skip = l .skip;
       count = suc (l .count);
       mark = l .mark;
+      changed = l .changed;
     }
 
 -- a step while the cycle isn't open is refused
@@ -91,6 +130,7 @@ logCall s l clear = blank s
 logCall s l (start z) = ifTaken (firstNo (startArguments s z)) (logStart z l) l
 logCall s l (program row given) = ifTaken (firstNo (programArguments s row given)) (logProgram s row given l) l
 logCall s l (drift row column level) = ifTaken (firstNo (driftArguments s row column level)) (logDrift row column level l) l
+logCall s l (line row byte) = ifTaken (firstNo (lineArguments s row byte)) (logLine row byte l) l
 logCall s l (lookup inputs matches) = l
 logCall s l (step matches) = ifTaken (firstNo (stepArguments s matches)) (whileOpen (l .course) (logStep s l) l) l
 

@@ -13,21 +13,25 @@ ghost use Rattle.cycle_run.specs.Cycles.{cycleCall};
 ghost use Rattle.ffi_words.specs.Words.{storedOf, onWords};
 ghost use Rattle.ffi.specs.Numbers.{telling};
 
-// Clear: cells, counters, flags and totals all 0, record idle: the fresh array.
+// Clear: cells, lines, counters, flags and totals all 0, record idle: the fresh array.
 #[no_mangle]
 pub extern "C" fn jorivelune_clear(
     words: &mut [usize; 7],
     shape: Shape,
     cells: &mut [u8],
+    lines: &mut [u8],
     counters: &mut [u8],
     flags: &mut [u8],
     totals: &mut [u8],
 ) -> u8
-    ensures { λ r. ⌜ ((mem : Memory) → onWords (clearCall shape) (withAll (was cells) (was counters) (was flags) (was totals) mem) (was words)
-        ≡ giving (telling r 0) [] (storedOf (withAll (left cells) (left counters) (left flags) (left totals) mem) (left words))) ⌝ }
+    ensures { λ r. ⌜ ((mem : Memory) → onWords (clearCall shape) (withAll (was cells) (was lines) (was counters) (was flags) (was totals) mem) (was words)
+        ≡ giving (telling r 0) [] (storedOf (withAll (left cells) (left lines) (left counters) (left flags) (left totals) mem) (left words))) ⌝ }
 {
     let cycle = cycle_of(words);
-    store(words, cycle.clear(shape, cells, counters, flags, totals))
+    store(
+        words,
+        cycle.clear(shape, cells, lines, counters, flags, totals),
+    )
 }
 
 // Program: writes a row of k levels with its check cells; the record becomes idle.
@@ -46,8 +50,8 @@ pub extern "C" fn jorivelune_program(
     store(words, cycle.program(shape, cells, row, given))
 }
 
-// Start: counters, flags and totals 0, record open, count 0, also when a cycle was open. The cycle skips a number of low
-// digits: 0 for the whole cycle.
+// Start: counters, flags and totals 0, record open, count 0, its opening next, also when a cycle was open. The cycle skips a
+// number of low digits: 0 for the whole cycle.
 #[no_mangle]
 pub extern "C" fn jorivelune_start(
     words: &mut [usize; 7],
@@ -64,26 +68,27 @@ pub extern "C" fn jorivelune_start(
     store(words, cycle.start(shape, skip, counters, flags, totals))
 }
 
-// Step: makes the next lookup of the schedule, writes the match bytes and counts them; where it looks for rows to flag,
-// counts the blocks' totals anew.
+// Step: makes the next lookup of the schedule, the opening or a test, and writes the match bytes; where it looks for rows to
+// flag, counts the blocks' totals anew.
 #[no_mangle]
 pub extern "C" fn jorivelune_step(
     words: &mut [usize; 7],
     shape: Shape,
     cells: &[u8],
+    lines: &[u8],
     counters: &mut [u8],
     flags: &mut [u8],
     totals: &mut [u8],
     matches: &mut [u8],
 ) -> u8
     ensures { λ r. ⌜ ((mem : Memory) → onWords (λ st. stepCall shape st (was matches))
-        (withAll (was cells) (was counters) (was flags) (was totals) mem) (was words)
-        ≡ giving (telling r 0) (left matches) (storedOf (withAll (was cells) (left counters) (left flags) (left totals) mem) (left words))) ⌝ }
+        (withAll (was cells) (was lines) (was counters) (was flags) (was totals) mem) (was words)
+        ≡ giving (telling r 0) (left matches) (storedOf (withAll (was cells) (was lines) (left counters) (left flags) (left totals) mem) (left words))) ⌝ }
 {
     let cycle = cycle_of(words);
     store(
         words,
-        cycle.step(shape, cells, counters, flags, totals, matches),
+        cycle.step(shape, cells, lines, counters, flags, totals, matches),
     )
 }
 
@@ -94,18 +99,29 @@ pub extern "C" fn jorivelune_run(
     shape: Shape,
     skip: usize,
     cells: &[u8],
+    lines: &[u8],
     counters: &mut [u8],
     flags: &mut [u8],
     totals: &mut [u8],
     matches: &mut [u8],
 ) -> u8
     ensures { λ r. ⌜ ((mem : Memory) → onWords (λ st. cycleCall shape st skip (was matches))
-        (withAll (was cells) (was counters) (was flags) (was totals) mem) (was words)
-        ≡ giving (telling r 0) (left matches) (storedOf (withAll (was cells) (left counters) (left flags) (left totals) mem) (left words))) ⌝ }
+        (withAll (was cells) (was lines) (was counters) (was flags) (was totals) mem) (was words)
+        ≡ giving (telling r 0) (left matches) (storedOf (withAll (was cells) (was lines) (left counters) (left flags) (left totals) mem) (left words))) ⌝ }
 {
     let cycle = cycle_of(words);
     store(
         words,
-        run_cycle(cycle, shape, skip, cells, counters, flags, totals, matches),
+        run_cycle(
+            cycle,
+            shape,
+            skip,
+            cells,
+            lines,
+            counters,
+            flags,
+            totals,
+            matches,
+        ),
     )
 }

@@ -1,8 +1,9 @@
-// The calls without the record: on the cells, and on one lent row. A refused call leaves every buffer as it was.
+// The calls without the record: on cells and lines, and on one lent row. A refused call leaves every buffer as it was.
 use acam::encode::encode_row;
 use array::cells::read;
 use array::cells::sound;
 use array::change::drift;
+use array::lines::set_line;
 use array_lookup::first::first_match;
 use array_lookup::task::lookup;
 use parity::Shape;
@@ -15,8 +16,8 @@ ghost use mathlib.Core.List.{[]};
 ghost use Rattle.shape.specs.Answers.{outcomeSays, giving};
 ghost use Rattle.shape.specs.Lent.{was, left};
 ghost use Rattle.acam.specs.Rows.{encodeCall};
-ghost use Rattle.array_memory.specs.Memory.{Memory, withCells};
-ghost use Rattle.array.specs.Calls.{driftCall, readCall, soundCall};
+ghost use Rattle.array_memory.specs.Memory.{Memory, withCells, withLines, withArray};
+ghost use Rattle.array.specs.Calls.{driftCall, lineCall, readCall, soundCall};
 ghost use Rattle.array_lookup.specs.Lookups.{lookupCall, firstCall};
 ghost use Rattle.ffi.specs.Numbers.{telling, foundSays};
 
@@ -44,6 +45,15 @@ pub extern "C" fn jorivelune_drift(
     number_of(drift(shape, cells, row, column, level))
 }
 
+// Line: one row's match line becomes sound, 0, or dead, 1, and nothing else changes.
+#[no_mangle]
+pub extern "C" fn jorivelune_line(shape: Shape, lines: &mut [u8], row: usize, byte: u8) -> u8
+    ensures { λ r. ⌜ ((mem : Memory) → lineCall shape (withLines (was lines) mem) row byte
+        ≡ giving (telling r 0) [] (withLines (left lines) mem)) ⌝ }
+{
+    number_of(set_line(shape, lines, row, byte))
+}
+
 // Read: copies the k rule cells of a row out.
 #[no_mangle]
 pub extern "C" fn jorivelune_read(shape: Shape, cells: &[u8], row: usize, out: &mut [u8]) -> u8
@@ -66,14 +76,15 @@ pub extern "C" fn jorivelune_encode(shape: Shape, row: &mut [u8]) -> u8
 pub extern "C" fn jorivelune_lookup(
     shape: Shape,
     cells: &[u8],
+    lines: &[u8],
     inputs: &[u8],
     matches: &mut [u8],
     count: &mut usize,
 ) -> u8
-    ensures { λ r. ⌜ ((mem : Memory) → lookupCall shape (withCells (was cells) mem) (was inputs) (was matches)
-        ≡ giving (telling r (left count)) (left matches) (withCells (was cells) mem)) ⌝ }
+    ensures { λ r. ⌜ ((mem : Memory) → lookupCall shape (withArray (was cells) (was lines) mem) (was inputs) (was matches)
+        ≡ giving (telling r (left count)) (left matches) (withArray (was cells) (was lines) mem)) ⌝ }
 {
-    match lookup(shape, cells, inputs, matches) {
+    match lookup(shape, cells, lines, inputs, matches) {
         Answer::Is(number) => {
             *count = number;
             0
@@ -90,13 +101,14 @@ pub extern "C" fn jorivelune_lookup(
 pub extern "C" fn jorivelune_first_match(
     shape: Shape,
     cells: &[u8],
+    lines: &[u8],
     inputs: &[u8],
     found: &mut usize,
 ) -> u8
-    ensures { λ r. ⌜ ((mem : Memory) → foundSays (shape .rows) (firstCall shape (withCells (was cells) mem) (was inputs))
+    ensures { λ r. ⌜ ((mem : Memory) → foundSays (shape .rows) (firstCall shape (withArray (was cells) (was lines) mem) (was inputs))
         ≡ telling r (left found)) ⌝ }
 {
-    match first_match(shape, cells, inputs) {
+    match first_match(shape, cells, lines, inputs) {
         First::Row(row) => {
             *found = row;
             0

@@ -5,15 +5,16 @@ use mathlib.Core.List.{List, [], _∷_, _++_}
 use Prim.Native.Nat.{ℕ, zero, suc}
 use lib.ListN.{length, replicate, length-replicate}
 use borrow.Author.Tests.{eq-eqb}
-use Rattle.parity.specs.Matrix.{lookups}
+use Rattle.parity.specs.Matrix.{cycleSteps}
 use Rattle.parity.specs.Questions.{firstNo, ifTaken, Taken}
 use Rattle.parity.specs.declared.Shape.{Shape}
 use Rattle.parity.proofs.Taken.{limits}
 use Rattle.shape.specs.Answers.{accepted, refused, giving, calling}
 use Rattle.shape.proofs.Calling.{call-done}
-use Rattle.array_memory.specs.Memory.{Memory, withCells, withAll, noMemory, Sized}
+use Rattle.array_memory.specs.Memory.{Memory, withArray, withAll, noMemory, Sized}
 use Rattle.array_memory.specs.Questions.{cellsQuestions, programArguments}
 use Rattle.array.specs.Calls.{programmed}
+use Rattle.cycle_lookup.specs.Lookup.{entryMatches}
 use Rattle.cycle.specs.Record.{idle}
 use Rattle.cycle.specs.Calls.{State, stateOf, zeroRows, cleared, fresh, clearQuestions, clearCall, programCall, lentQuestions}
 use Rattle.cycle.specs.Calls.{stepQuestions, stepMatches, stepped, stepCall}
@@ -64,25 +65,25 @@ module _ (s : Shape) where
   module _ (t : Taken s) where
     -- a clear of lent buffers leaves the fresh array
     clear-gives :
-        (cells counters flags totals : List ℕ)
-        → let mem = withAll cells counters flags totals noMemory in Sized s mem → clearCall s (stateOf mem idle) ≡ giving (accepted 0) [] (fresh s)
+        (cells lines counters flags totals : List ℕ)
+        → let mem = withAll cells lines counters flags totals noMemory in Sized s mem → clearCall s (stateOf mem idle) ≡ giving (accepted 0) [] (fresh s)
     unfolding clearCall fresh cleared zeroRows
-    clear-gives cells counters flags totals z =
-        let st = stateOf (withAll cells counters flags totals noMemory) idle in
+    clear-gives cells lines counters flags totals z =
+        let st = stateOf (withAll cells lines counters flags totals noMemory) idle in
         call-done (clearQuestions s (st .memory)) [] st _ (clear-asked s t st z)
 
     pub clear-left :
-        (cells counters flags totals : List ℕ) → let mem = withAll cells counters flags totals noMemory in
+        (cells lines counters flags totals : List ℕ) → let mem = withAll cells lines counters flags totals noMemory in
         Sized s mem → (r : Changed) (last : Memory) → clearCall s (stateOf mem idle) ≡ changing r [] last → fresh s ≡ stateOf last idle
     unfolding fresh
-    clear-left cells counters flags totals z r last e =
-        let state : fresh s ≡ stateOf last (r .cycle) = ap (λ r. r .state) (sym (clear-gives cells counters flags totals z) ∙ e) in
+    clear-left cells lines counters flags totals z r last e =
+        let state : fresh s ≡ stateOf last (r .cycle) = ap (λ r. r .state) (sym (clear-gives cells lines counters flags totals z) ∙ e) in
         state ∙ ap (stateOf last) (sym (ap (λ st. st .cycle) state))
 
     cycle-left :
         (mem : Memory) → Sized s mem → (matches : List ℕ) → length matches ≡ s .rows
         → cycleCall s (stateOf mem idle) 0 matches
-        ≡ giving (accepted 0) (lastMatches 0 s mem) (runFrom s (stateOf mem idle) (start 0 ∷ replicate (lookups 0 s) (step matches)))
+        ≡ giving (accepted 0) (lastMatches 0 s mem) (runFrom s (stateOf mem idle) (start 0 ∷ replicate (cycleSteps 0 s) (step matches)))
     unfolding cycleCall
     cycle-left mem z matches l =
         let none : firstNo (cycleQuestions s mem 0 matches) ≡ 0 =
@@ -104,20 +105,20 @@ module _ (input : List ℕ) (s : Shape) (same : s ≡ jobShape input) (t : Taken
   job-runs :
       (mem next : Memory) → runFrom s (fresh s) programs ≡ stateOf mem idle → runFrom s (stateOf mem idle) drifts ≡ stateOf next idle
       → (matches : List ℕ) → length matches ≡ s .rows
-      → jobState input ≡ runFrom s (stateOf next idle) (start 0 ∷ replicate (lookups 0 s) (step matches))
+      → jobState input ≡ runFrom s (stateOf next idle) (start 0 ∷ replicate (cycleSteps 0 s) (step matches))
   unfolding jobState jobCalls run fresh cleared zeroRows
   job-runs mem next p d matches l =
       let none : List ℕ = replicate (s .rows) 0 in
-      let cycle = start 0 ∷ replicate (lookups 0 s) (step none) in
+      let cycle = start 0 ∷ replicate (cycleSteps 0 s) (step none) in
       ap
       (λ s.
       runFrom s (fresh s)
-      (clear ∷ programCalls input (s .rows) ++ drifts ++ start 0 ∷ replicate (lookups 0 s) (step (replicate (s .rows) 0))))
+      (clear ∷ programCalls input (s .rows) ++ drifts ++ start 0 ∷ replicate (cycleSteps 0 s) (step (replicate (s .rows) 0))))
       (sym same)
-      ∙ ap (λ r. runFrom s (r .state) (programs ++ drifts ++ cycle)) (clear-gives s t _ _ _ _ (fresh-sized s))
+      ∙ ap (λ r. runFrom s (r .state) (programs ++ drifts ++ cycle)) (clear-gives s t _ _ _ _ _ (fresh-sized s))
       ∙ run-append s (fresh s) (programs ++ drifts) cycle
       ∙ ap (λ st. runFrom s st cycle) (run-append s (fresh s) programs drifts ∙ ap (λ st. runFrom s st drifts) p ∙ d)
-      ∙ steps-same s none matches (length-replicate (s .rows) 0 ∙ sym l) (lookups 0 s) _
+      ∙ steps-same s none matches (length-replicate (s .rows) 0 ∙ sym l) (cycleSteps 0 s) _
 
   -- the same by what the calls give, made one after the other
   pub job-ended :
@@ -126,12 +127,12 @@ module _ (input : List ℕ) (s : Shape) (same : s ≡ jobShape input) (t : Taken
       → runFrom s (stateOf programmed idle) drifts ≡ stateOf drifted idle
       → Sized s drifted → (given : List ℕ) → length given ≡ s .rows
       → (r : Changed) (matches : List ℕ) → cycleCall s (stateOf drifted idle) 0 given ≡ changing r matches last
-      → drifted .cells ≡ last .cells
+      → (drifted .cells ≡ last .cells) × (drifted .lines ≡ last .lines)
       → giving (accepted 0) (jobMatches input) (jobState input) ≡ changing (doneWith (r .cycle)) matches last
-  unfolding jobMatches lastMatches
-  job-ended mem programmed drifted last f p d z given l r matches ran cells =
+  unfolding jobMatches lastMatches entryMatches
+  job-ended mem programmed drifted last f p d z given l r matches ran array =
       let gives = sym (cycle-left s t drifted z given l) ∙ ran in
       let state = job-runs programmed drifted (ap (λ st. runFrom s st programs) f ∙ p) d given l ∙ ap (λ r. r .state) gives in
       let seen : jobMatches input ≡ lastMatches 0 s last = ap₂ (λ s st. lastMatches 0 s (st .memory)) (sym same) state in
-      let bytes = seen ∙ ap (λ cells. lastMatches 0 s (withCells cells last)) (sym cells) ∙ ap (λ r. r .bytes) gives in
+      let bytes = seen ∙ ap₂ (λ cells lines. lastMatches 0 s (withArray cells lines last)) (sym (array .0)) (sym (array .1)) ∙ ap (λ r. r .bytes) gives in
       ap₂ (giving (accepted 0)) bytes state

@@ -20,6 +20,7 @@ use Rattle.job.specs.Job.{jobState, jobMatches, reportText, jobText, Spa
 -- buffers that are long enough
 pub record Room (sp : Space) : Type 0 where
   pub cells : 16384 ≤ length (sp .cells)
+  pub lines : 4096 ≤ length (sp .lines)
   pub counters : 4096 ≤ length (sp .counters)
   pub flags : 4096 ≤ length (sp .flags)
   pub totals : 64 ≤ length (sp .totals)
@@ -30,22 +31,25 @@ pub room : (sp : Space) → roomy sp ≡ true → Room sp
 unfolding enough
 room sp e =
     let one = leb 16384 (length (sp .cells)) in
-    let two = leb 4096 (length (sp .counters)) in
-    let three = leb 4096 (length (sp .flags)) in
-    let four = leb 64 (length (sp .totals)) in
-    let five = leb 4096 (length (sp .matches)) in
-    let to-six = and-eq-true-iff (one && two && three && four && five) (leb 200000 (length (sp .out))) .0 e in
+    let two = leb 4096 (length (sp .lines)) in
+    let three = leb 4096 (length (sp .counters)) in
+    let four = leb 4096 (length (sp .flags)) in
+    let five = leb 64 (length (sp .totals)) in
+    let six = leb 4096 (length (sp .matches)) in
+    let to-seven = and-eq-true-iff (one && two && three && four && five && six) (leb 200000 (length (sp .out))) .0 e in
+    let to-six = and-eq-true-iff (one && two && three && four && five) six .0 (to-seven .0) in
     let to-five = and-eq-true-iff (one && two && three && four) five .0 (to-six .0) in
     let to-four = and-eq-true-iff (one && two && three) four .0 (to-five .0) in
     let to-three = and-eq-true-iff (one && two) three .0 (to-four .0) in
     let to-two = and-eq-true-iff one two .0 (to-three .0) in
     record {
       cells = leb-true 16384 _ (to-two .0);
-      counters = leb-true 4096 _ (to-two .1);
-      flags = leb-true 4096 _ (to-three .1);
-      totals = leb-true 64 _ (to-four .1);
-      matches = leb-true 4096 _ (to-five .1);
-      out = leb-true 200000 _ (to-six .1);
+      lines = leb-true 4096 _ (to-two .1);
+      counters = leb-true 4096 _ (to-three .1);
+      flags = leb-true 4096 _ (to-four .1);
+      totals = leb-true 64 _ (to-five .1);
+      matches = leb-true 4096 _ (to-six .1);
+      out = leb-true 200000 _ (to-seven .1);
     }
 
 -- a buffer whose front part was lent
@@ -67,16 +71,16 @@ module _ (input : List ℕ) (sp : Space) where
     gives :
         (run : Space) → ifTaken (jobRefusal input) (withRun (jobMatches input) (jobState input) sp) sp ≡ run → run .out ≡ sp .out
         → (text : List ℕ) → jobText input ≡ text → {end : ℕ} {after : List ℕ} → Wrote 0 text (sp .out) end after
-        → jobCall input sp ≡ printed end (space (run .cells) (run .counters) (run .flags) (run .totals) (run .matches) after)
+        → jobCall input sp ≡ printed end (space (run .cells) (run .lines) (run .counters) (run .flags) (run .totals) (run .matches) after)
     unfolding jobCall
     gives run left out text same {end} {after} w =
         let size : length text ≡ end = omega (arith, w .place) in
         let bytes : written 0 text (run .out) ≡ after = ap (written 0 text) out ∙ sym (w .bytes) in
-        rw (e, left, same) (λ i. printed (size i) (space (run .cells) (run .counters) (run .flags) (run .totals) (run .matches) (bytes i)))
+        rw (e, left, same) (λ i. printed (size i) (space (run .cells) (run .lines) (run .counters) (run .flags) (run .totals) (run .matches) (bytes i)))
 
     pub refused-job :
         (n : ℕ) → (jobRefusal input ≡ n) × (0 < n) → {end : ℕ} {after : List ℕ} → Wrote 0 (refusedText n) (sp .out) end after
-        → jobCall input sp ≡ printed end (space (sp .cells) (sp .counters) (sp .flags) (sp .totals) (sp .matches) after)
+        → jobCall input sp ≡ printed end (space (sp .cells) (sp .lines) (sp .counters) (sp .flags) (sp .totals) (sp .matches) after)
     unfolding jobText
     refused-job n fails w =
         gives sp (of-refusal (jobRefusal input) n fails (λ n. sp) _) refl (refusedText n) (of-refusal (jobRefusal input) n fails refusedText _) w
@@ -86,7 +90,7 @@ module _ (input : List ℕ) (sp : Space) where
         jobRefusal input ≡ 0 → (matches : List ℕ) (st : State)
         → giving (accepted 0) (jobMatches input) (jobState input) ≡ giving (accepted 0) matches st
         → {end : ℕ} {after : List ℕ} → Wrote 0 (reportText (jobShape input) st) (sp .out) end after
-        → let run = withRun matches st sp in jobCall input sp ≡ printed end (space (run .cells) (run .counters) (run .flags) (run .totals) (run .matches) after)
+        → let run = withRun matches st sp in jobCall input sp ≡ printed end (space (run .cells) (run .lines) (run .counters) (run .flags) (run .totals) (run .matches) after)
     unfolding jobText
     taken-job none matches st ran w =
         gives (withRun matches st sp)

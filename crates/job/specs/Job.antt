@@ -6,7 +6,7 @@ use lib.Dec.{leb}
 use lib.ListN.{length, replicate}
 use Rattle.parity.specs.Lists.{joined}
 use Rattle.parity.specs.Shape.{levels, columns}
-use Rattle.parity.specs.Matrix.{lookups}
+use Rattle.parity.specs.Matrix.{cycleSteps}
 use Rattle.parity.specs.Questions.{ifTaken}
 use Rattle.parity.specs.declared.Shape.{Shape}
 use Rattle.cycle.specs.Calls.{State}
@@ -26,7 +26,7 @@ programCalls input rows = joined rows (λ i. program i (rowLevels input i) ∷ [
 abbrev pub driftCalls : List ℕ → ℕ → List Call
 driftCalls input count = joined count (λ i. drift (driftRow input i) (driftColumn input i) (driftLevel input i) ∷ [])
 
--- it clears, programs every row, applies the drifts, runs one cycle that skips no digit
+-- it clears, which makes all lines sound, programs every row, applies the drifts, runs one cycle that skips no digit
 unfoldable pub jobCalls : List ℕ → List Call
 jobCalls input =
     let s = jobShape input in
@@ -34,7 +34,7 @@ jobCalls input =
     ∷ programCalls input (s .rows)
     ++ driftCalls input (driftCount input)
     ++ start 0
-    ∷ replicate (lookups 0 s) (step (replicate (s .rows) 0))
+    ∷ replicate (cycleSteps 0 s) (step (replicate (s .rows) 0))
 
 -- the state that the calls' own definitions leave
 unfoldable pub jobState : List ℕ → State
@@ -59,32 +59,35 @@ jobText input = ifTaken (jobRefusal input) (reportText (jobShape input) (jobStat
 -- the buffers that are lent to a job
 pub record Space : Type 0 where
   pub cells : List ℕ
+  pub lines : List ℕ
   pub counters : List ℕ
   pub flags : List ℕ
   pub totals : List ℕ
   pub matches : List ℕ
   pub out : List ℕ
 
-abbrev pub space : List ℕ → List ℕ → List ℕ → List ℕ → List ℕ → List ℕ → Space
-space cells counters flags totals matches out =
-    record { cells = cells; counters = counters; flags = flags; totals = totals; matches = matches; out = out }
+abbrev pub space : List ℕ → List ℕ → List ℕ → List ℕ → List ℕ → List ℕ → List ℕ → Space
+space cells lines counters flags totals matches out =
+    record { cells = cells; lines = lines; counters = counters; flags = flags; totals = totals; matches = matches; out = out }
 
--- lengths that hold the largest job: 16,384 cells, 4,096 counters, flags and match bytes, 64 totals, and 200,000 bytes of text
-unfoldable pub enough : ℕ → ℕ → ℕ → ℕ → ℕ → ℕ → Bool
-enough cells counters flags totals matches out =
-    leb 16384 cells && leb 4096 counters && leb 4096 flags && leb 64 totals && leb 4096 matches && leb 200000 out
+-- lengths that hold the largest job: 16,384 cells, 4,096 lines, counters, flags and match bytes, 64 totals, and 200,000 bytes of text
+unfoldable pub enough : ℕ → ℕ → ℕ → ℕ → ℕ → ℕ → ℕ → Bool
+enough cells lines counters flags totals matches out =
+    leb 16384 cells && leb 4096 lines && leb 4096 counters && leb 4096 flags && leb 64 totals && leb 4096 matches && leb 200000 out
 
 abbrev pub roomy : Space → Bool
 roomy sp =
-    enough (length (sp .cells)) (length (sp .counters)) (length (sp .flags)) (length (sp .totals)) (length (sp .matches)) (length (sp .out))
+    enough (length (sp .cells)) (length (sp .lines)) (length (sp .counters)) (length (sp .flags)) (length (sp .totals)) (length (sp .matches))
+    (length (sp .out))
 
--- what calls leave, m match bytes and the state's m × n cells, m counters, m flags and ⌈m / 64⌉ totals, at the start of their buffers; every
--- other byte stays
+-- what calls leave, m match bytes and the state's m × n cells, m lines, m counters, m flags and ⌈m / 64⌉ totals, at the start of their buffers;
+-- every other byte stays
 abbrev pub withRun : List ℕ → State → Space → Space
 withRun matches st sp =
     let mem = st .memory in
     space
     (written 0 (mem .cells) (sp .cells))
+    (written 0 (mem .lines) (sp .lines))
     (written 0 (mem .counters) (sp .counters))
     (written 0 (mem .flags) (sp .flags))
     (written 0 (mem .totals) (sp .totals))
@@ -93,7 +96,7 @@ withRun matches st sp =
 
 -- a text at the start of out; every other byte stays
 abbrev pub withText : List ℕ → Space → Space
-withText text sp = space (sp .cells) (sp .counters) (sp .flags) (sp .totals) (sp .matches) (written 0 text (sp .out))
+withText text sp = space (sp .cells) (sp .lines) (sp .counters) (sp .flags) (sp .totals) (sp .matches) (written 0 text (sp .out))
 
 -- all that a job gives: the length of its text, and the buffers
 pub record Printed : Type 0 where

@@ -16,15 +16,19 @@ ghost use Rattle.job.specs.Job.{enough, space, printed, jobCall};
 // Whether buffers of these lengths hold the largest job.
 fn has_room(
     cells: usize,
+    lines: usize,
     counters: usize,
     flags: usize,
     totals: usize,
     matches: usize,
     out: usize,
 ) -> bool
-    ensures { λ r. ⌜ r ≡ enough cells counters flags totals matches out ⌝ }
+    ensures { λ r. ⌜ r ≡ enough cells lines counters flags totals matches out ⌝ }
 {
     if cells < 16384 {
+        return false;
+    }
+    if lines < 4096 {
         return false;
     }
     if counters < 4096 {
@@ -43,24 +47,26 @@ fn has_room(
 }
 
 // Runs a job and gives the length of the text that it prints, which stands at the start of out. The buffers need at least
-// the lengths of the largest job: 16,384 for cells, 4,096 each for counters, flags and matches, 64 for totals, 200,000 for out;
-// there is no upper bound. Where one is shorter nothing is done, and the length is 0. A refused job writes its one line, and
-// nothing else. A job that is taken leaves its m × n cells, m counters, m flags, the totals of its blocks and the m match
-// bytes of its last lookup at the start of those buffers. Every other byte stays as it was.
+// the lengths of the largest job: 16,384 for cells, 4,096 each for lines, counters, flags and matches, 64 for totals, 200,000
+// for out; there is no upper bound. Where one is shorter nothing is done, and the length is 0. A refused job writes its one
+// line, and nothing else. A job that is taken leaves its m × n cells, m lines, all sound, m counters, m flags, the totals of its
+// blocks and the m match bytes of its last lookup at the start of those buffers. Every other byte stays as it was.
 pub fn job(
     input: &[u8],
     cells: &mut [u8],
+    lines: &mut [u8],
     counters: &mut [u8],
     flags: &mut [u8],
     totals: &mut [u8],
     matches: &mut [u8],
     out: &mut [u8],
 ) -> usize
-    ensures { λ r. ⌜ jobCall (was input) (space (was cells) (was counters) (was flags) (was totals) (was matches) (was out))
-        ≡ printed r (space (left cells) (left counters) (left flags) (left totals) (left matches) (left out)) ⌝ }
+    ensures { λ r. ⌜ jobCall (was input) (space (was cells) (was lines) (was counters) (was flags) (was totals) (was matches) (was out))
+        ≡ printed r (space (left cells) (left lines) (left counters) (left flags) (left totals) (left matches) (left out)) ⌝ }
 {
     if !has_room(
         cells.len(),
+        lines.len(),
         counters.len(),
         flags.len(),
         totals.len(),
@@ -80,6 +86,7 @@ pub fn job(
                 input,
                 shape,
                 &mut cells[..end],
+                &mut lines[..rows],
                 &mut counters[..rows],
                 &mut flags[..rows],
                 &mut totals[..blocks],

@@ -56,18 +56,19 @@ pub(crate) fn run_calls(
     input: &[u8],
     shape: Shape,
     cells: &mut [u8],
+    lines: &mut [u8],
     counters: &mut [u8],
     flags: &mut [u8],
     totals: &mut [u8],
     matches: &mut [u8],
 ) -> Cycle
     requires { ⌜ (jobRefusal (now input) ≡ 0) × (shape ≡ jobShape (now input)) ⌝ }
-    requires { ⌜ Sized shape (withAll (now cells) (now counters) (now flags) (now totals) noMemory) × (length (now matches) ≡ shape .rows) ⌝ }
+    requires { ⌜ Sized shape (withAll (now cells) (now lines) (now counters) (now flags) (now totals) noMemory) × (length (now matches) ≡ shape .rows) ⌝ }
     ensures { λ r. ⌜ giving (accepted 0) (jobMatches (was input)) (jobState (was input))
-        ≡ changing (doneWith r) (left matches) (withAll (left cells) (left counters) (left flags) (left totals) noMemory) ⌝ }
+        ≡ changing (doneWith r) (left matches) (withAll (left cells) (left lines) (left counters) (left flags) (left totals) noMemory) ⌝ }
 {
     let from = 13 + shape.rows * shape.width;
-    Cycle::IDLE.clear(shape, cells, counters, flags, totals);
+    Cycle::IDLE.clear(shape, cells, lines, counters, flags, totals);
     program_rows(input, shape, cells);
     drift_cells(input, shape, from, cells);
     let ended = run_cycle(
@@ -75,6 +76,7 @@ pub(crate) fn run_calls(
         shape,
         0,
         cells,
+        lines,
         counters,
         flags,
         totals,

@@ -10,16 +10,18 @@ use Rattle.parity.specs.declared.Shape.{Shape}
 use Rattle.parity.proofs.ListLaws.{length-tabulate, tabulate-same, tabulate-constant}
 use Rattle.shape.proofs.Calling.{call-keeps}
 use Rattle.array_memory.specs.Blocks.{blocksOf, blockAt, countFlagged, blockTotals}
-use Rattle.array_memory.specs.Memory.{Memory, withCells, noMemory}
+use Rattle.array_memory.specs.Memory.{Memory, withArray, noMemory}
 use Rattle.array_memory.proofs.BlockPlaces.{block-low, block-flag}
 use Rattle.array_memory.proofs.FlagCounts.{zero-count}
-use Rattle.array.specs.Calls.{programmed, drifted, driftCall}
+use Rattle.array.specs.Calls.{programmed, drifted, driftCall, lineSet, lineCall}
 use Rattle.array_lookup.specs.Lookups.{lookupCall}
+use Rattle.schedule.specs.Schedule.{Entry}
+use Rattle.cycle_lookup.specs.Lookup.{flaggedRows, lookedUp}
+use Rattle.cycle_lookup.proofs.Passes.{flags-kept, totals-kept, totals-counted}
 use Rattle.cycle.specs.Record.{nextEntry}
-use Rattle.cycle.specs.Calls.{State, zeroRows, cleared, fresh, clearCall, programCall, started, startCall, flaggedRows, steppedMemory, stepped, stepCall}
-use Rattle.cycle.specs.Run.{Call, clear, start, program, drift, lookup, step, after, run}
+use Rattle.cycle.specs.Calls.{State, zeroRows, cleared, fresh, clearCall, programCall, started, startCall, steppedMemory, stepped, stepCall}
+use Rattle.cycle.specs.Run.{Call, clear, start, program, drift, line, lookup, step, after, run}
 use Rattle.cycle.proofs.Runs.{keepClaim}
-use Rattle.cycle.proofs.StepPasses.{flags-kept, totals-kept, totals-counted}
 use Rattle.panel.specs.Claims.{TotalsClaim}
 
 -- what every call keeps
@@ -27,9 +29,9 @@ pub record Totalled (s : Shape) (mem : Memory) : Type 0 where
   pub sized : length (mem .flags) ≡ s .rows
   pub counted : mem .totals ≡ blockTotals (mem .flags)
 
--- cells that are written anew leave it
-cells-apart : (s : Shape) (mem : Memory) → Totalled s mem → (cells : List ℕ) → Totalled s (withCells cells mem)
-cells-apart s mem t cells = record { sized = t .sized; counted = t .counted }
+-- cells and lines that are written anew leave it
+array-apart : (s : Shape) (mem : Memory) → Totalled s mem → (cells lines : List ℕ) → Totalled s (withArray cells lines mem)
+array-apart s mem t cells lines = record { sized = t .sized; counted = t .counted }
 
 -- without a flag every total is 0
 zero-byte : (m j : ℕ) → let zeros : List ℕ = replicate m 0 in getD zeros j 0 ≡ 0
@@ -56,26 +58,30 @@ module _ (s : Shape) where
   zeroed mem = record { sized = length-replicate (s .rows) 0; counted = zero-totals (s .rows) }
 
   counted-anew : (st : State) → Totalled s (st .memory) → Totalled s (steppedMemory s st)
-  unfolding steppedMemory flaggedRows
-  counted-anew st t = record { sized = length-tabulate (s .rows) _; counted = go (nextEntry s (st .cycle) .flags) refl }
+  unfolding steppedMemory lookedUp flaggedRows
+  counted-anew st t = record { sized = length-tabulate (s .rows) _; counted = go (entry .flags) refl }
     where
-      go : (b : Bool) → nextEntry s (st .cycle) .flags ≡ b → steppedMemory s st .totals ≡ blockTotals (steppedMemory s st .flags)
-      go true e = sym (totals-counted s st e refl refl)
-      go false e = sym (totals-kept s st e) ∙ t .counted ∙ ap blockTotals (flags-kept s st e (t .sized))
+      entry : Entry
+      entry = nextEntry s (st .cycle)
+
+      go : (b : Bool) → entry .flags ≡ b → lookedUp s entry (st .memory) .totals ≡ blockTotals (lookedUp s entry (st .memory) .flags)
+      go true e = sym (totals-counted s entry (st .memory) e refl refl)
+      go false e = sym (totals-kept s entry (st .memory) e) ∙ t .counted ∙ ap blockTotals (flags-kept s entry (st .memory) e (t .sized))
 
   keeps : (st : State) (c : Call) → Totalled s (st .memory) → Totalled s (after s st c .memory)
-  unfolding clearCall cleared programCall programmed startCall started driftCall drifted lookupCall stepCall stepped
-  keeps st clear t = call-keeps _ _ st _ (λ st. Totalled s (st .memory)) t (cells-apart s _ (zeroed (st .memory)) _)
+  unfolding clearCall cleared programCall programmed startCall started driftCall drifted lineCall lineSet lookupCall stepCall stepped
+  keeps st clear t = call-keeps _ _ st _ (λ st. Totalled s (st .memory)) t (array-apart s _ (zeroed (st .memory)) _ _)
   keeps st (start z) t = call-keeps _ _ st _ (λ st. Totalled s (st .memory)) t (zeroed (st .memory))
-  keeps st (program row given) t = call-keeps _ _ st _ (λ st. Totalled s (st .memory)) t (cells-apart s (st .memory) t _)
-  keeps st (drift row column level) t = call-keeps _ _ (st .memory) _ (Totalled s) t (cells-apart s (st .memory) t _)
+  keeps st (program row given) t = call-keeps _ _ st _ (λ st. Totalled s (st .memory)) t (array-apart s (st .memory) t _ _)
+  keeps st (drift row column level) t = call-keeps _ _ (st .memory) _ (Totalled s) t (array-apart s (st .memory) t _ _)
+  keeps st (line row byte) t = call-keeps _ _ (st .memory) _ (Totalled s) t (array-apart s (st .memory) t _ _)
   keeps st (lookup inputs matches) t = call-keeps _ _ (st .memory) _ (Totalled s) t t
   keeps st (step matches) t = call-keeps _ _ st _ (λ st. Totalled s (st .memory)) t (counted-anew st t)
 
   -- after every list
   pub totalled : (calls : List Call) → Totalled s (run s calls .memory)
   unfolding fresh cleared
-  totalled = keepClaim s (λ st. Totalled s (st .memory)) (cells-apart s _ (zeroed noMemory) _) keeps
+  totalled = keepClaim s (λ st. Totalled s (st .memory)) (array-apart s _ (zeroed noMemory) _ _) keeps
 
 pub totalsClaim : TotalsClaim
 totalsClaim s calls = totalled s calls .counted

@@ -22,9 +22,11 @@ fn example(digits: usize, errors: usize, width: usize, rows: usize) -> Shape {
     }
 }
 
-// The lookups of a whole cycle, made on one row and counted by the record.
+// The lookups of a whole cycle, made on one row and counted by the record; its opening, which the paper does not have, is
+// left out.
 fn lookups_made(shape: Shape, columns: usize) -> usize {
     let cells = [0u8; 64];
+    let lines = [0u8; 1];
     let mut counters = [0u8; 1];
     let mut flags = [0u8; 1];
     let mut totals = [0u8; 1];
@@ -37,13 +39,18 @@ fn lookups_made(shape: Shape, columns: usize) -> usize {
         shape,
         0,
         &cells[..columns],
+        &lines,
         &mut counters,
         &mut flags,
         &mut totals,
         &mut matches,
     );
     let cycle = ended.cycle;
-    cycle.count
+    let count = cycle.count;
+    if count == 0 {
+        return 0;
+    }
+    count - 1
 }
 
 fn put(word: &[u8], value: usize) {

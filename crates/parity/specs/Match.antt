@@ -1,8 +1,8 @@
--- The comparator, a row's match byte and the input vector of a task lookup.
+-- The comparator, a row's match byte, what its match line makes of it (document 02, Card 4), and the input vector of a task lookup.
 use mathlib.Core.Bool.{Bool, true, false, cond, _&&_}
 use mathlib.Core.List.{List, [], _∷_, _++_}
 use Prim.Native.Nat.{ℕ}
-use lib.Dec.{leb}
+use lib.Dec.{eqb, leb}
 use lib.ListN.{replicate}
 use Rattle.parity.specs.Shape.{checks}
 use Rattle.parity.specs.declared.Shape.{Shape}
@@ -21,6 +21,11 @@ allAnswer (x ∷ xs) (v ∷ vs) = answers x v && allAnswer xs vs
 -- a row's match byte for a vector of as many inputs as it has cells
 unfoldable pub matchByte : List ℕ → List ℕ → ℕ
 matchByte vector row = cond (allAnswer vector row) 1 0
+
+-- The byte that a row's match line gives: a sound line, whose line byte is 0, gives the row's match byte; any other is dead and gives 0, whatever
+-- the cells and the inputs.
+unfoldable pub lineMatch : ℕ → List ℕ → List ℕ → ℕ
+lineMatch line vector row = cond (eqb line 0) (matchByte vector row) 0
 
 -- the vector of a task lookup: the k inputs, and 0 for each check column
 unfoldable pub taskVector : Shape → List ℕ → List ℕ

@@ -56,3 +56,7 @@ matrixOnes s = sumTo (checks s) (λ ℓ. length (support s ℓ))
 -- the lookups of a detection cycle that skips the z lowest digits: (q / ρ^z − 1) × W
 unfoldable pub lookups : ℕ → Shape → ℕ
 lookups z s = (levels s / s .radix ^ z - 1) * matrixOnes s
+
+-- the steps of such a cycle: its opening (document 02, Card 4), and then the lookups
+abbrev pub cycleSteps : ℕ → Shape → ℕ
+cycleSteps z s = suc (lookups z s)

@@ -78,6 +78,10 @@ levelsQuestion s given = record { number = 8; holds = every (λ v. ltb v (levels
 abbrev pub inputsQuestion : Shape → List ℕ → Question
 inputsQuestion s inputs = record { number = 8; holds = every (λ v. ltb v (levels s)) inputs }
 
+-- 16: is a line byte to set 0, sound, or 1, dead?
+abbrev pub lineQuestion : ℕ → Question
+lineQuestion byte = record { number = 16; holds = leb byte 1 }
+
 -- The questions of a call, in their order: those on the shape; on further numbers; 6 on the lengths of what is lent; and the call's own.
 abbrev pub callQuestions : Shape → List Question → List Question → List Question → List Question
 callQuestions s numbers lengths own = shapeQuestions s ++ numbers ++ lengths ++ own

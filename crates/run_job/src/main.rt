@@ -7,6 +7,7 @@ fn main() {
     let mut input = [0u8; 32769];
     let got = io::read_full(STDIN_FILENO, &mut input);
     let mut cells = [0u8; 16384];
+    let mut lines = [0u8; 4096];
     let mut counters = [0u8; 4096];
     let mut flags = [0u8; 4096];
     let mut totals = [0u8; 64];
@@ -15,6 +16,7 @@ fn main() {
     let end = job::job(
         &input[..got],
         &mut cells,
+        &mut lines,
         &mut counters,
         &mut flags,
         &mut totals,

@@ -1,6 +1,6 @@
--- Each entry of a schedule asks a column of the array with an input from 1 to q − 1, so a cell of q or more answers as q − 1 does.
+-- Each test of a schedule asks a column of the array with an input from 1 to q − 1, so a cell of q or more answers as q − 1 does.
 -- Assumes nothing.
-use mathlib.Core.Path.{_≡_, refl, ap, _∙_}
+use mathlib.Core.Path.{_≡_, refl, sym, ap, _∙_}
 use mathlib.Core.Bool.{Bool, true, false}
 use mathlib.Core.List.{List, map}
 use Prim.Native.Nat.{ℕ, suc, _-_, _*_, _^_, _≤_, _<_, min}
@@ -14,15 +14,16 @@ use Rattle.parity.specs.Matrix.{support}
 use Rattle.parity.specs.Questions.{Taken}
 use Rattle.parity.specs.declared.Shape.{Shape}
 use Rattle.parity.proofs.Taken.{limits}
-use Rattle.schedule.specs.Schedule.{Entry, factors, within, ending, testVector, ofDigit, ofCheck, schedule}
-use Rattle.schedule.specs.Line.{freshLine}
+use Rattle.schedule.specs.Schedule.{Entry, factors, within, ending, testVector, ofDigit, ofCheck, tests, schedule}
+use Rattle.schedule.specs.Tally.{freshTally}
 use Rattle.schedule.specs.Claims.{CapClaim}
 use Rattle.schedule.proofs.All.{All, all-at, all-turn, all-joined, all-atLast, all-pairs}
 use Rattle.schedule.proofs.Lookup.{match-entry}
 use Rattle.schedule.proofs.Support.{support-below}
 use Rattle.schedule.proofs.Factors.{factors-inputs}
 use Rattle.schedule.proofs.Length.{entries}
-use Rattle.schedule.proofs.Runs.{lineRun-alike}
+use Rattle.schedule.proofs.Runs.{tallyRun-alike}
+use Rattle.schedule.proofs.Opening.{opening-matched}
 
 pub record Proper (s : Shape) (e : Entry) : Type 0 where
   pub check : e .check < checks s
@@ -31,8 +32,8 @@ pub record Proper (s : Shape) (e : Entry) : Type 0 where
   pub factor : 1 ≤ e .factor
   pub input : e .factor * s .radix ^ e .digit < levels s
 
-pub proper-all : (z : ℕ) (s : Shape) → Taken s → All (Proper s) (schedule z s)
-unfolding schedule ofCheck ofDigit
+pub proper-all : (z : ℕ) (s : Shape) → Taken s → All (Proper s) (tests z s)
+unfolding tests ofCheck ofDigit
 proper-all z s t =
     all-joined (Proper s) (checks s) (ofCheck z s) λ ℓ h.
     all-joined (Proper s) (s .digits - z) (λ i. ofDigit z s ℓ (s .digits - suc i)) λ i l.
@@ -44,9 +45,8 @@ proper-all z s t =
     (λ j a k m. record { check = h; digit = lt; column = k; factor = m .0; input = m .1 }) (support s ℓ) (factors s d) (support-below s t ℓ)
     (factors-inputs s (limits s t .radixLow) d lt))
 
-pub schedule-proper :
-    (z : ℕ) (s : Shape) → Taken s → (c : ℕ) → c < length (schedule z s) → (d : Entry) → Proper s (getD (schedule z s) c d)
-schedule-proper z s t = all-at (Proper s) (schedule z s) (proper-all z s t)
+pub tests-proper : (z : ℕ) (s : Shape) → Taken s → (c : ℕ) → c < length (tests z s) → (d : Entry) → Proper s (getD (tests z s) c d)
+tests-proper z s t = all-at (Proper s) (tests z s) (proper-all z s t)
 
 -- an input below q doesn't tell a cell from its cap
 leb-capped : (x q v : ℕ) → x < q → leb x (min v (q - 1)) ≡ leb x v
@@ -74,6 +74,8 @@ match-capped s row sized e p =
     )
 
 pub capClaim : CapClaim
-capClaim z s t row sized =
-    lineRun-alike s row (map (λ v. min v (levels s - 1)) row) (schedule z s)
-    (all-turn (Proper s) _ (match-capped s row sized) (schedule z s) (proper-all z s t)) freshLine
+unfolding schedule
+capClaim z s t line row sized =
+    let capped : List ℕ = map (λ v. min v (levels s - 1)) row in
+    let opened = opening-matched s t row sized ∙ sym (opening-matched s t capped (length-map row (λ v. min v (levels s - 1)) ∙ sized)) in
+    tallyRun-alike s line row capped (schedule z s) (opened, all-turn (Proper s) _ (match-capped s row sized) (tests z s) (proper-all z s t)) freshTally

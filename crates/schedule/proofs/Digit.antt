@@ -1,4 +1,4 @@
--- The lookups of one ℓ and s on a line: the match bytes are counted mod ρ, and at the last the row is flagged if the counter is not 0 and the
+-- The tests of one ℓ and s on the tally of a row with a sound line: the match bytes are counted mod ρ, and at the last the row is flagged if the counter is not 0 and the
 -- counter returns to 0 where s is z. Assumes nothing.
 use mathlib.Core.Path.{_≡_, refl, sym, ap, ap₂, _∙_}
 use mathlib.Core.Bool.{Bool, true, false, cond, not}
@@ -9,22 +9,23 @@ use native.Mathlib.Omega.{arith}
 use lib.Dec.{eqb}
 use lib.ListN.{length}
 use Rattle.parity.specs.Lists.{sumOver}
-use Rattle.parity.specs.Match.{matchByte}
+use Rattle.parity.specs.Match.{matchByte, lineMatch}
 use Rattle.parity.specs.declared.Shape.{Shape}
 use Rattle.schedule.specs.Schedule.{Entry, atLast, ending, testVector}
-use Rattle.schedule.specs.Line.{Line, counted, flagged, reset, lineStep, lineRun}
+use Rattle.schedule.specs.Tally.{Tally, counted, flagged, reset, tallyStep, tallyRun}
 use Rattle.schedule.proofs.All.{All}
 
-abbrev pub line : ℕ → ℕ → Line
-line c f = record { counter = c; flag = f }
+abbrev pub tally : ℕ → ℕ → Tally
+tally c f = record { counter = c; flag = f }
 
--- the line at the end of digit s, where c has been counted
-abbrev pub ended : ℕ → ℕ → ℕ → ℕ → Line
-ended z s c f = line (cond (eqb s z) 0 c) (cond (eqb c 0) f 1)
+-- the tally at the end of digit s, where c has been counted
+abbrev pub ended : ℕ → ℕ → ℕ → ℕ → Tally
+ended z s c f = tally (cond (eqb s z) 0 c) (cond (eqb c 0) f 1)
 
--- an entry of digit s that counts and no more
+-- a test of digit s that counts and no more
 pub record Plain (s : ℕ) (e : Entry) : Type 0 where
   pub digit : e .digit ≡ s
+  pub opens : e .opens ≡ false
   pub flags : e .flags ≡ false
   pub resets : e .resets ≡ false
 
@@ -37,33 +38,38 @@ module _ (shape : Shape) (row : List ℕ) where
   matched e = matchByte (testVector shape e) row
 
   step-counted :
-      (c f : ℕ) (e : Entry)
-      → lineStep shape row e (line (c % shape .radix) f)
-      ≡ line (reset e ((c + matched e) % shape .radix)) (flagged e ((c + matched e) % shape .radix) f)
-  unfolding lineStep counted
-  step-counted c f e = ap (λ d. line (reset e d) (flagged e d f)) (mod-add-mod c (shape .radix) (matched e))
+      (c f : ℕ) (e : Entry) → e .opens ≡ false
+      → tallyStep shape 0 row e (tally (c % shape .radix) f)
+      ≡ tally (reset e ((c + matched e) % shape .radix)) (flagged e (matched e) ((c + matched e) % shape .radix) f)
+  unfolding tallyStep counted lineMatch
+  step-counted c f e p =
+      let ρ : ℕ = shape .radix in
+      let after : ℕ → Tally = λ d. tally (reset e d) (flagged e (matched e) d f) in
+      ap (λ opens. after (cond opens (c % ρ) ((c % ρ + matched e) % ρ))) p ∙ ap after (mod-add-mod c ρ (matched e))
 
   step-plain :
-      (s c f : ℕ) (e : Entry) → Plain s e → lineStep shape row e (line (c % shape .radix) f) ≡ line ((c + matched e) % shape .radix) f
+      (s c f : ℕ) (e : Entry) → Plain s e → tallyStep shape 0 row e (tally (c % shape .radix) f) ≡ tally ((c + matched e) % shape .radix) f
   unfolding flagged reset
-  step-plain s c f e p = step-counted c f e ∙ simp (p .resets, p .flags)
+  step-plain s c f e p = step-counted c f e (p .opens) ∙ simp (p .resets, p .flags)
 
 module _ (z : ℕ) (shape : Shape) (row : List ℕ) where
   step-last :
       (s c f : ℕ) (e : Entry) → Plain s e
-      → lineStep shape row (ending z e) (line (c % shape .radix) f) ≡ ended z s ((c + matched shape row e) % shape .radix) f
+      → tallyStep shape 0 row (ending z e) (tally (c % shape .radix) f) ≡ ended z s ((c + matched shape row e) % shape .radix) f
   unfolding flagged reset testVector
   step-last s c f e p =
       let d : ℕ = (c + matched shape row e) % shape .radix in
-      step-counted shape row c f (ending z e) ∙ ap₂ line (ap (λ i. cond (eqb i z) 0 d) (p .digit)) (turned (eqb d 0) f)
+      step-counted shape row c f (ending z e) (p .opens)
+      ∙ ap₂ tally (ap (λ i. cond (eqb i z) 0 d) (p .digit))
+      (ap (λ opens. cond (cond opens (eqb (matched shape row e) 0) (not (eqb d 0))) 1 f) (p .opens) ∙ turned (eqb d 0) f)
 
   pub run-digit :
       (s c f : ℕ) (es : List Entry) → All (Plain s) es → 0 < length es
-      → lineRun shape row (atLast (ending z) es) (line (c % shape .radix) f) ≡ ended z s ((c + sumOver es (matched shape row)) % shape .radix) f
+      → tallyRun shape 0 row (atLast (ending z) es) (tally (c % shape .radix) f) ≡ ended z s ((c + sumOver es (matched shape row)) % shape .radix) f
   run-digit s c f [] p h = absurd (not-suc-le-zero h)
   run-digit s c f (e ∷ []) p h =
       step-last s c f e (p .0) ∙ ap (λ x. ended z s ((c + x) % shape .radix) f) (sym (add-zero (matched shape row e)))
   run-digit s c f (e ∷ e′ ∷ es) p h =
-      ap (lineRun shape row (atLast (ending z) (e′ ∷ es))) (step-plain shape row s c f e (p .0))
+      ap (tallyRun shape 0 row (atLast (ending z) (e′ ∷ es))) (step-plain shape row s c f e (p .0))
       ∙ run-digit s (c + matched shape row e) f (e′ ∷ es) (p .1) (omega arith)
       ∙ ap (λ x. ended z s (x % shape .radix) f) (add-assoc c (matched shape row e) (sumOver (e′ ∷ es) (matched shape row)))

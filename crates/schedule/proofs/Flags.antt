@@ -9,7 +9,7 @@ use native.Mathlib.Omega.{arith}
 use lib.Arith.{comp-comp}
 use lib.Dec.{eqb, leb}
 use lib.ListN.{length, getD}
-use borrow.Author.Tests.{eq-eqb, ne-eqb, leb-true, leb-false}
+use borrow.Author.Tests.{eqb-true, eqb-false, eq-eqb, ne-eqb, leb-true, leb-false}
 use Rattle.parity.specs.Lists.{joined, sumOver, everyTo}
 use Rattle.parity.specs.Shape.{digit, levels, checks, columns}
 use Rattle.parity.specs.Matrix.{support}
@@ -19,10 +19,10 @@ use Rattle.parity.specs.declared.Shape.{Shape}
 use Rattle.parity.proofs.Taken.{limits}
 use Rattle.parity.proofs.ListLaws.{everyTo-at, everyTo-passes}
 use Rattle.parity.proofs.CodewordTest.{isBalanced}
-use Rattle.schedule.specs.Schedule.{factors, within, ofDigit, ofCheck, schedule}
+use Rattle.schedule.specs.Schedule.{factors, within, ofDigit, ofCheck, tests, schedule}
 use Rattle.schedule.specs.Coarse.{isBalancedFrom}
-use Rattle.schedule.specs.Line.{Line, lineRun, freshLine}
-use Rattle.schedule.specs.Claims.{FlagClaim}
+use Rattle.schedule.specs.Tally.{Tally, tallyRun, freshTally}
+use Rattle.schedule.specs.Claims.{AfterCycle, FlagClaim}
 use Rattle.schedule.proofs.All.{All, all-turn, all-pairs}
 use Rattle.schedule.proofs.Sums.{cond-same, sum-overEach, sum-map, sum-each, sum-same}
 use Rattle.schedule.proofs.Lookup.{match-entry}
@@ -31,8 +31,9 @@ use Rattle.schedule.proofs.Support.{support-below, support-some}
 use Rattle.schedule.proofs.Factors.{factors-some, factors-inputs}
 use Rattle.schedule.proofs.Length.{entries, entries-length}
 use Rattle.schedule.proofs.Balanced.{alike, balancedClaim}
-use Rattle.schedule.proofs.Runs.{lineRun-joined}
-use Rattle.schedule.proofs.Digit.{line, ended, Plain, matched, run-digit}
+use Rattle.schedule.proofs.Runs.{tallyRun-joined}
+use Rattle.schedule.proofs.Opening.{opening-sound, deadClaim}
+use Rattle.schedule.proofs.Digit.{tally, ended, Plain, matched, run-digit}
 
 -- v / ρ^s over the cells in J(ℓ), added up
 abbrev pub shares : Shape → List ℕ → ℕ → ℕ → ℕ
@@ -42,10 +43,10 @@ shares shape row ℓ s = sumOver (support shape ℓ) (λ j. getD row j 0 / shape
 abbrev pub counterAt : ℕ → Shape → List ℕ → ℕ → ℕ → ℕ
 counterAt z shape row ℓ s = cond (eqb s z) 0 (shares shape row ℓ s % shape .radix)
 
--- the line after the i highest digits of check row ℓ, where the flag was f before
-abbrev checkLine : ℕ → Shape → List ℕ → ℕ → ℕ → ℕ → Line
-checkLine z shape row ℓ f i =
-    line (counterAt z shape row ℓ (shape .digits - i)) (cond (everyTo i (λ i. isBalanced shape row ℓ (shape .digits - suc i))) f 1)
+-- the tally after the i highest digits of check row ℓ, where the flag was f before
+abbrev checkTally : ℕ → Shape → List ℕ → ℕ → ℕ → ℕ → Tally
+checkTally z shape row ℓ f i =
+    tally (counterAt z shape row ℓ (shape .digits - i)) (cond (everyTo i (λ i. isBalanced shape row ℓ (shape .digits - suc i))) f 1)
 
 -- flags one after the other
 both-flags : (a b : Bool) (f : ℕ) → cond b (cond a f 1) 1 ≡ cond (a && b) f 1
@@ -89,20 +90,20 @@ module _
 
   pub digit-run :
       (ℓ s f : ℕ) → ℓ < checks shape → z ≤ s → s < shape .digits
-      → lineRun shape row (ofDigit z shape ℓ s) (line (counterAt z shape row ℓ (suc s)) f)
-      ≡ line (counterAt z shape row ℓ s) (cond (isBalanced shape row ℓ s) f 1)
+      → tallyRun shape 0 row (ofDigit z shape ℓ s) (tally (counterAt z shape row ℓ (suc s)) f)
+      ≡ tally (counterAt z shape row ℓ s) (cond (isBalanced shape row ℓ s) f 1)
   unfolding ofDigit
   digit-run ℓ s f h le lt =
       let two : 2 ≤ shape .radix = limits shape t .radixLow in
       let above : ℕ = shares shape row ℓ (suc s) in
       let plain : All (Plain s) (entries shape ℓ s) =
-      all-pairs (Plain s) (λ j. j < columns shape) _ (within ℓ s) (λ j a l k. record { digit = refl; flags = refl; resets = refl })
+      all-pairs (Plain s) (λ j. j < columns shape) _ (within ℓ s) (λ j a l k. record { digit = refl; opens = refl; flags = refl; resets = refl })
       (support shape ℓ) (factors shape s) (support-below shape t ℓ) (factors-inputs shape two s lt) in
-      ap (λ c. lineRun shape row (ofDigit z shape ℓ s) (line (cond c 0 (above % shape .radix)) f)) (ne-eqb (suc s) z (λ e. omega arith))
+      ap (λ c. tallyRun shape 0 row (ofDigit z shape ℓ s) (tally (cond c 0 (above % shape .radix)) f)) (ne-eqb (suc s) z (λ e. omega arith))
       ∙ run-digit z shape row s above f (entries shape ℓ s) plain
       (rw entries-length (one-le-mul (support-some shape t ℓ h) (factors-some shape two s lt)))
       ∙ ap (λ x. ended z s (x % shape .radix) f) (entries-matched ℓ s lt)
-      ∙ ap (λ p. line (counterAt z shape row ℓ s) (cond p f 1)) (share-balanced shape row ℓ s)
+      ∙ ap (λ p. tally (counterAt z shape row ℓ s) (cond p f 1)) (share-balanced shape row ℓ s)
 
   -- no level has more than b digits; x + x ≡ x says that x is 0
   shares-none : (ℓ : ℕ) → shares shape row ℓ (shape .digits) ≡ 0
@@ -133,50 +134,58 @@ module _
 
   check-step :
       (ℓ f i : ℕ) → ℓ < checks shape → i < shape .digits - z
-      → lineRun shape row (ofDigit z shape ℓ (shape .digits - suc i)) (checkLine z shape row ℓ f i) ≡ checkLine z shape row ℓ f (suc i)
+      → tallyRun shape 0 row (ofDigit z shape ℓ (shape .digits - suc i)) (checkTally z shape row ℓ f i) ≡ checkTally z shape row ℓ f (suc i)
   check-step ℓ f i h l =
       let b : ℕ = shape .digits in
       let sound : ℕ → Bool = λ i. isBalanced shape row ℓ (b - suc i) in
       let flag : ℕ = cond (everyTo i sound) f 1 in
       let next : b - i ≡ suc (b - suc i) = omega arith in
-      ap (λ s. lineRun shape row (ofDigit z shape ℓ (b - suc i)) (line (counterAt z shape row ℓ s) flag)) next
-      ∙ digit-run ℓ (b - suc i) flag h (omega arith) (omega arith) ∙ ap (line (counterAt z shape row ℓ (b - suc i))) (both-flags (everyTo i sound) (sound i) f)
+      ap (λ s. tallyRun shape 0 row (ofDigit z shape ℓ (b - suc i)) (tally (counterAt z shape row ℓ s) flag)) next
+      ∙ digit-run ℓ (b - suc i) flag h (omega arith) (omega arith) ∙ ap (tally (counterAt z shape row ℓ (b - suc i))) (both-flags (everyTo i sound) (sound i) f)
 
   pub check-run :
       (ℓ f : ℕ) → ℓ < checks shape
-      → lineRun shape row (ofCheck z shape ℓ) (line 0 f) ≡ line 0 (cond (everyTo (shape .digits - z) (λ i. isBalanced shape row ℓ (z + i))) f 1)
+      → tallyRun shape 0 row (ofCheck z shape ℓ) (tally 0 f) ≡ tally 0 (cond (everyTo (shape .digits - z) (λ i. isBalanced shape row ℓ (z + i))) f 1)
   unfolding ofCheck
   check-run ℓ f h =
       let b : ℕ = shape .digits in
-      ap (λ c. lineRun shape row (ofCheck z shape ℓ) (line c f)) (sym (counter-start ℓ))
-      ∙ lineRun-joined shape row (b - z) (λ i. ofDigit z shape ℓ (b - suc i)) (checkLine z shape row ℓ f) (λ i. check-step ℓ f i h)
-      ∙ ap₂ line (counter-end ℓ)
+      ap (λ c. tallyRun shape 0 row (ofCheck z shape ℓ) (tally c f)) (sym (counter-start ℓ))
+      ∙ tallyRun-joined shape 0 row (b - z) (λ i. ofDigit z shape ℓ (b - suc i)) (checkTally z shape row ℓ f) (λ i. check-step ℓ f i h)
+      ∙ ap₂ tally (counter-end ℓ)
       (ap (λ p. cond p f 1)
       (everyTo-down (b - z) (λ i. isBalanced shape row ℓ (b - suc i)) (λ i. isBalanced shape row ℓ (z + i))
       (λ i l. let same : b - suc i ≡ z + (b - z - suc i) = omega arith in ap (isBalanced shape row ℓ) same)))
 
   pub checks-run :
       (n f : ℕ) → n ≤ checks shape
-      → lineRun shape row (joined n (ofCheck z shape)) (line 0 f)
-      ≡ line 0 (cond (everyTo n (λ ℓ. everyTo (shape .digits - z) (λ i. isBalanced shape row ℓ (z + i)))) f 1)
+      → tallyRun shape 0 row (joined n (ofCheck z shape)) (tally 0 f)
+      ≡ tally 0 (cond (everyTo n (λ ℓ. everyTo (shape .digits - z) (λ i. isBalanced shape row ℓ (z + i)))) f 1)
   checks-run n f h =
       let sound : ℕ → Bool = λ ℓ. everyTo (shape .digits - z) (λ i. isBalanced shape row ℓ (z + i)) in
-      lineRun-joined shape row n (ofCheck z shape) (λ ℓ. line 0 (cond (everyTo ℓ sound) f 1))
-      (λ ℓ l. check-run ℓ (cond (everyTo ℓ sound) f 1) (omega arith) ∙ ap (line 0) (both-flags (everyTo ℓ sound) (sound ℓ) f))
+      tallyRun-joined shape 0 row n (ofCheck z shape) (λ ℓ. tally 0 (cond (everyTo ℓ sound) f 1))
+      (λ ℓ l. check-run ℓ (cond (everyTo ℓ sound) f 1) (omega arith) ∙ ap (tally 0) (both-flags (everyTo ℓ sound) (sound ℓ) f))
 
--- the line after a whole cycle, as the test of the digit sums tells it
-pub flag-test :
-    (z : ℕ) (s : Shape) → Taken s → (row : List ℕ) → length row ≡ columns s → Below (levels s) (columns s) row
-    → lineRun s row (schedule z s) freshLine ≡ record { counter = 0; flag = cond (isBalancedFrom z s row) 0 1 }
-unfolding schedule isBalancedFrom
-flag-test z s t row sized below = checks-run z s t row sized below (checks s) 0 (omega arith)
+-- the tally after a whole cycle, as the tests of the line and of the digit sums tell it
+module _ (z : ℕ) (s : Shape) (t : Taken s) (row : List ℕ) (sized : length row ≡ columns s) (below : Below (levels s) (columns s) row) where
+  sound-test : tallyRun s 0 row (schedule z s) freshTally ≡ tally 0 (cond (isBalancedFrom z s row) 0 1)
+  unfolding schedule tests isBalancedFrom
+  sound-test = ap (tallyRun s 0 row (tests z s)) (opening-sound s t row sized 0 0) ∙ checks-run z s t row sized below (checks s) 0 (omega arith)
+
+  pub flag-test : (line : ℕ) → tallyRun s line row (schedule z s) freshTally ≡ tally 0 (cond (eqb line 0 && isBalancedFrom z s row) 0 1)
+  flag-test line = go (eqb line 0) refl
+    where
+      go : (b : Bool) → eqb line 0 ≡ b → tallyRun s line row (schedule z s) freshTally ≡ tally 0 (cond (b && isBalancedFrom z s row) 0 1)
+      go true e = ap (λ line. tallyRun s line row (schedule z s) freshTally) (eqb-true line 0 e) ∙ sound-test
+      go false e = deadClaim z s line (eqb-false line 0 e) row
+
+  flags-after : AfterCycle z s row (tallyRun s 0 row (schedule z s) freshTally)
+  flags-after =
+      let test = balancedClaim z s row in
+      record {
+        counter = ap (λ l. l .counter) sound-test;
+        balanced = λ h. ap (λ l. l .flag) sound-test ∙ ap (λ b. cond b 0 1) (test .1 h);
+        unbalanced = λ n. ap (λ l. l .flag) sound-test ∙ ap (λ b. cond b 0 1) (not-eq-not {b = false} .0 (λ p. n (test .0 p)));
+      }
 
 pub flagClaim : FlagClaim
-flagClaim z s t row sized below =
-    let e = flag-test z s t row sized below in
-    let test = balancedClaim z s row in
-    record {
-      counter = ap (λ l. l .counter) e;
-      balanced = λ h. ap (λ l. l .flag) e ∙ ap (λ b. cond b 0 1) (test .1 h);
-      unbalanced = λ n. ap (λ l. l .flag) e ∙ ap (λ b. cond b 0 1) (not-eq-not {b = false} .0 (λ p. n (test .0 p)));
-    }
+flagClaim z s t row sized below = flags-after z s t row sized below

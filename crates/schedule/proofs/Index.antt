@@ -1,4 +1,4 @@
--- The index of a place: what stands before it in the schedule is the check rows before its own, there the digits above its own, and of those the
+-- The index of a place: what stands before it among the tests is the check rows before its own, there the digits above its own, and of those the
 -- columns and factors before it. Each place has the entry that says whether it is the last of its digit, and there is no other entry.
 -- Assumes nothing.
 use mathlib.Core.Path.{_≡_, refl, ap, _∙_}
@@ -17,7 +17,7 @@ use Rattle.parity.specs.Matrix.{support}
 use Rattle.parity.specs.Questions.{Taken}
 use Rattle.parity.specs.declared.Shape.{Shape}
 use Rattle.parity.proofs.Taken.{limits}
-use Rattle.schedule.specs.Schedule.{Entry, factors, within, ending, ofDigit, ofCheck, schedule}
+use Rattle.schedule.specs.Schedule.{Entry, factors, within, ending, ofDigit, ofCheck, tests}
 use Rattle.schedule.specs.Index.{IsPlace, supportSize, rank, span, placeIndex, endsAt, entryOf}
 use Rattle.schedule.specs.Claims.{IndexClaim}
 use Rattle.schedule.proofs.Sums.{length-joined, sum-steps, sum-times}
@@ -40,7 +40,7 @@ last-last m w r c h k = go (eqb (suc r) m) (eqb (suc c) w) refl refl
 -- an entry that ends its digit or not
 marked : (z ℓ d j a : ℕ) (b : Bool)
     → cond b (ending z (within ℓ d j a)) (within ℓ d j a)
-    ≡ record { check = ℓ; digit = d; column = j; factor = a; flags = b; resets = b && eqb d z }
+    ≡ record { check = ℓ; digit = d; column = j; factor = a; opens = false; flags = b; resets = b && eqb d z }
 marked z ℓ d j a true = refl
 marked z ℓ d j a false = refl
 
@@ -109,8 +109,8 @@ module _ (z : ℕ) (s : Shape) (t : Taken s) where
       let all = stands-atLast (ending z) (entries s ℓ d) (r * w + k) (within ℓ d j a) plain in
       (all .0, λ e. all .1 e ∙ ap (λ b. cond b (ending z (within ℓ d j a)) (within ℓ d j a)) ends ∙ marked z ℓ d j a (endsAt s ℓ d j a))
 
-  place-stands : (ℓ d j a : ℕ) → IsPlace z s ℓ d j a → Stands (schedule z s) (placeIndex z s ℓ d j a) (entryOf z s ℓ d j a)
-  unfolding schedule ofCheck
+  place-stands : (ℓ d j a : ℕ) → IsPlace z s ℓ d j a → Stands (tests z s) (placeIndex z s ℓ d j a) (entryOf z s ℓ d j a)
+  unfolding tests ofCheck
   place-stands ℓ d j a p =
       let own : s .digits - suc (s .digits - suc d) ≡ d = comp-comp (p .digit) in
       rw (index-parts ℓ d j a (p .digit))
@@ -120,8 +120,8 @@ module _ (z : ℕ) (s : Shape) (t : Taken s) where
 
   -- ---- each index
 
-  index-found : (c : ℕ) → c < length (schedule z s) → (ℓ : ℕ) × (d : ℕ) × (j : ℕ) × (a : ℕ) × IsPlace z s ℓ d j a × (placeIndex z s ℓ d j a ≡ c)
-  unfolding schedule ofCheck
+  index-found : (c : ℕ) → c < length (tests z s) → (ℓ : ℕ) × (d : ℕ) × (j : ℕ) × (a : ℕ) × IsPlace z s ℓ d j a × (placeIndex z s ℓ d j a ≡ c)
+  unfolding tests ofCheck
   index-found c h =
       let two : 2 ≤ s .radix = limits s t .radixLow in
       let (ℓ, c₁, check, l₁, e₁) = joined-part (checks s) (ofCheck z s) c h in

@@ -1,4 +1,4 @@
--- The schedule has (q / ρ^z − 1) × W entries: over the digits of one ℓ the numbers of factors add up to q / ρ^z − 1. Assumes nothing.
+-- The schedule has the opening and (q / ρ^z − 1) × W tests: over the digits of one ℓ the numbers of factors add up to q / ρ^z − 1. Assumes nothing.
 use mathlib.Core.Path.{_≡_, refl, ap, _∙_}
 use mathlib.Core.Bool.{Bool, true, false}
 use mathlib.Core.List.{List, map}
@@ -9,11 +9,11 @@ use lib.Dec.{leb}
 use lib.ListN.{length, length-map}
 use borrow.Author.Tests.{leb-true, leb-false}
 use Rattle.parity.specs.Shape.{levels, checks}
-use Rattle.parity.specs.Matrix.{support, matrixOnes, lookups}
+use Rattle.parity.specs.Matrix.{support, matrixOnes, lookups, cycleSteps}
 use Rattle.parity.specs.Questions.{Taken}
 use Rattle.parity.specs.declared.Shape.{Shape}
 use Rattle.parity.proofs.Taken.{limits}
-use Rattle.schedule.specs.Schedule.{Entry, factors, overEach, within, ending, ofDigit, ofCheck, schedule}
+use Rattle.schedule.specs.Schedule.{Entry, factors, overEach, within, ending, ofDigit, ofCheck, tests, schedule}
 use Rattle.schedule.specs.Claims.{LengthClaim}
 use Rattle.schedule.proofs.Sums.{length-joined, length-atLast, length-overEach, sum-steps, sum-times}
 use Rattle.schedule.proofs.Powers.{quotient-some}
@@ -87,8 +87,16 @@ module _ (z : ℕ) (shape : Shape) (t : Taken shape) (ℓ : ℕ) where
       go true e = length-down (leb-true z (shape .digits) e)
       go false e = length-none (leb-false z (shape .digits) e)
 
-pub lengthClaim : LengthClaim
-unfolding schedule lookups matrixOnes
-lengthClaim z s t =
+pub tests-length : (z : ℕ) (s : Shape) → Taken s → length (tests z s) ≡ lookups z s
+unfolding tests lookups matrixOnes
+tests-length z s t =
     length-joined (checks s) (ofCheck z s)
     ∙ sum-times (checks s) (levels s / s .radix ^ z - 1) (λ ℓ. length (ofCheck z s ℓ)) (λ ℓ. length (support s ℓ)) (λ ℓ h. check-length z s t ℓ)
+
+-- .. and the opening before them
+pub schedule-length : (z : ℕ) (s : Shape) → Taken s → length (schedule z s) ≡ cycleSteps z s
+unfolding schedule
+schedule-length z s t = ap suc (tests-length z s t)
+
+pub lengthClaim : LengthClaim
+lengthClaim z s t = (schedule-length z s t, tests-length z s t)

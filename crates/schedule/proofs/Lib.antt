@@ -15,5 +15,6 @@ pub mod Balanced
 pub mod Coarse
 pub mod Runs
 pub mod Digit
+pub mod Opening
 pub mod Flags
 pub mod Cap

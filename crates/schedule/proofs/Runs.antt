@@ -1,4 +1,4 @@
--- The effect of several lookups on a line, part by part. Assumes nothing.
+-- The effect of several lookups on a tally, part by part. Assumes nothing.
 use mathlib.Core.Path.{_≡_, refl, ap, _∙_}
 use mathlib.Core.List.{List, [], _∷_, _++_}
 use Prim.Native.Nat.{ℕ, zero, suc, _<_}
@@ -6,36 +6,37 @@ use native.Mathlib.Omega.{arith}
 use lib.ListN.{length, getD, take}
 use lib.Seq.{take-suc}
 use Rattle.parity.specs.Lists.{joined}
-use Rattle.parity.specs.Match.{matchByte}
+use Rattle.parity.specs.Match.{matchByte, lineMatch}
 use Rattle.parity.specs.declared.Shape.{Shape}
 use Rattle.schedule.specs.Schedule.{Entry, testVector}
-use Rattle.schedule.specs.Line.{Line, lineStep, lineRun}
+use Rattle.schedule.specs.Tally.{Tally, tallyStep, tallyRun}
 use Rattle.schedule.proofs.All.{All}
 
-module _ (s : Shape) (row : List ℕ) where
-  pub lineRun-append : (es fs : List Entry) (line : Line) → lineRun s row (es ++ fs) line ≡ lineRun s row fs (lineRun s row es line)
-  lineRun-append [] fs line = refl
-  lineRun-append (e ∷ es) fs line = lineRun-append es fs (lineStep s row e line)
+module _ (s : Shape) (line : ℕ) (row : List ℕ) where
+  pub tallyRun-append : (es fs : List Entry) (tally : Tally) → tallyRun s line row (es ++ fs) tally ≡ tallyRun s line row fs (tallyRun s line row es tally)
+  tallyRun-append [] fs tally = refl
+  tallyRun-append (e ∷ es) fs tally = tallyRun-append es fs (tallyStep s line row e tally)
 
   -- one lookup more
-  pub lineRun-take :
-      (es : List Entry) (c : ℕ) → c < length es → (d : Entry) (line : Line)
-      → lineRun s row (take (suc c) es) line ≡ lineStep s row (getD es c d) (lineRun s row (take c es) line)
-  lineRun-take es c h d line =
-      ap (λ fs. lineRun s row fs line) (take-suc es c d h) ∙ lineRun-append (take c es) (getD es c d ∷ []) line
+  pub tallyRun-take :
+      (es : List Entry) (c : ℕ) → c < length es → (d : Entry) (tally : Tally)
+      → tallyRun s line row (take (suc c) es) tally ≡ tallyStep s line row (getD es c d) (tallyRun s line row (take c es) tally)
+  tallyRun-take es c h d tally =
+      ap (λ fs. tallyRun s line row fs tally) (take-suc es c d h) ∙ tallyRun-append (take c es) (getD es c d ∷ []) tally
 
-  -- list after list, where each takes one line to the next
-  pub lineRun-joined :
-      (n : ℕ) (f : ℕ → List Entry) (lines : ℕ → Line) → ((i : ℕ) → i < n → lineRun s row (f i) (lines i) ≡ lines (suc i))
-      → lineRun s row (joined n f) (lines 0) ≡ lines n
-  lineRun-joined zero f lines h = refl
-  lineRun-joined (suc n) f lines h =
-      lineRun-append (joined n f) (f n) (lines 0) ∙ ap (lineRun s row (f n)) (lineRun-joined n f lines (λ i l. h i (omega arith))) ∙ h n (omega arith)
+  -- list after list, where each takes one tally to the next
+  pub tallyRun-joined :
+      (n : ℕ) (f : ℕ → List Entry) (tallies : ℕ → Tally) → ((i : ℕ) → i < n → tallyRun s line row (f i) (tallies i) ≡ tallies (suc i))
+      → tallyRun s line row (joined n f) (tallies 0) ≡ tallies n
+  tallyRun-joined zero f tallies h = refl
+  tallyRun-joined (suc n) f tallies h =
+      tallyRun-append (joined n f) (f n) (tallies 0) ∙ ap (tallyRun s line row (f n)) (tallyRun-joined n f tallies (λ i l. h i (omega arith))) ∙ h n (omega arith)
 
--- two rows that give each lookup the same match byte are counted alike
-pub lineRun-alike :
-    (s : Shape) (row row′ : List ℕ) (es : List Entry)
-    → All (λ e. matchByte (testVector s e) row ≡ matchByte (testVector s e) row′) es → (line : Line) → lineRun s row es line ≡ lineRun s row′ es line
-unfolding lineStep
-lineRun-alike s row row′ [] h line = refl
-lineRun-alike s row row′ (e ∷ es) h line = rw (h .0) (lineRun-alike s row row′ es (h .1) _)
+-- two rows that give each lookup the same match byte are counted alike, whatever their line
+pub tallyRun-alike :
+    (s : Shape) (line : ℕ) (row row′ : List ℕ) (es : List Entry)
+    → All (λ e. matchByte (testVector s e) row ≡ matchByte (testVector s e) row′) es
+    → (tally : Tally) → tallyRun s line row es tally ≡ tallyRun s line row′ es tally
+unfolding tallyStep lineMatch
+tallyRun-alike s line row row′ [] h tally = refl
+tallyRun-alike s line row row′ (e ∷ es) h tally = rw (h .0) (tallyRun-alike s line row row′ es (h .1) _)

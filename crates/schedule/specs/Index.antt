@@ -1,8 +1,8 @@
--- Only serves the code's own contracts: where an entry stands in the schedule, in closed form, by which a step tells whether a
+-- Only serves the code's own contracts: where a test stands among the tests of a schedule, in closed form, by which a step tells whether a
 -- record's place is that of its count.
 use mathlib.Core.Path.{_≡_}
 use mathlib.Core.Logic.{_≢_}
-use mathlib.Core.Bool.{Bool, _&&_}
+use mathlib.Core.Bool.{Bool, false, _&&_}
 use Prim.Native.Nat.{ℕ, suc, _+_, _-_, _*_, _/_, _%_, _^_, _≤_, _<_}
 use lib.Dec.{eqb}
 use lib.ListN.{length, getD, take}
@@ -24,7 +24,7 @@ rank s ℓ j = length (placesFrom 0 ℓ (take j (matrix s)))
 unfoldable pub span : Shape → ℕ → ℕ
 span s d = levels s / s .radix ^ d
 
--- a place of the schedule: ℓ, d, j and a within their ranges
+-- a place of a test: ℓ, d, j and a within their ranges
 pub record IsPlace (z : ℕ) (s : Shape) (ℓ d j a : ℕ) : Type 0 where
   pub check : ℓ < checks s
   pub digit : d < s .digits
@@ -35,7 +35,7 @@ pub record IsPlace (z : ℕ) (s : Shape) (ℓ d j a : ℕ) : Type 0 where
   pub high : a < span s d
   pub undivided : a % s .radix ≢ 0
 
--- how many entries stand before the place
+-- how many tests stand before the place
 unfoldable pub placeIndex : ℕ → Shape → ℕ → ℕ → ℕ → ℕ → ℕ
 placeIndex z s ℓ d j a =
     (span s z - 1) * sumTo ℓ (supportSize s)
@@ -47,7 +47,7 @@ placeIndex z s ℓ d j a =
 unfoldable pub endsAt : Shape → ℕ → ℕ → ℕ → ℕ → Bool
 endsAt s ℓ d j a = eqb (suc (rank s ℓ j)) (supportSize s ℓ) && eqb (suc a) (span s d)
 
--- the entry of a place
+-- the test of a place
 abbrev pub entryOf : ℕ → Shape → ℕ → ℕ → ℕ → ℕ → Entry
 entryOf z s ℓ d j a =
     record {
@@ -55,6 +55,7 @@ entryOf z s ℓ d j a =
       digit = d;
       column = j;
       factor = a;
+      opens = false;
       flags = endsAt s ℓ d j a;
       resets = endsAt s ℓ d j a && eqb d z;
     }

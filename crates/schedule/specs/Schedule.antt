@@ -1,5 +1,5 @@
 -- Document 01, "Schedule": the lookups of a detection cycle (the paper's test vectors), in their order. A cycle skips a number z of low digits
--- (document 02, Card 2); where z is 0 it is document 01's.
+-- (document 02, Card 2), and opens with the all-zero vector (Card 4); where z is 0 the tests behind the opening are document 01's.
 use mathlib.Core.Bool.{Bool, true, false, cond, not}
 use mathlib.Core.List.{List, [], _∷_, _++_, map}
 use Prim.Native.Nat.{ℕ, suc, _-_, _*_, _/_, _%_, _^_}
@@ -16,7 +16,10 @@ pub record Entry : Type 0 where
   pub digit : ℕ
   pub column : ℕ
   pub factor : ℕ
-  -- Every entry counts the match bytes. Whether rows whose counter isn't 0 are flagged after counting: at the last entry of each s.
+  -- Whether it is an opening: rows that don't match are to be flagged, and nothing is counted. Every other entry is a test: the match bytes are
+  -- counted, and rows whose counter isn't 0 are to be flagged.
+  pub opens : Bool
+  -- Whether rows are flagged now: at an opening, and at the last entry of each s.
   pub flags : Bool
   -- Whether counters return to 0 after that: at the last entry of each ℓ.
   pub resets : Bool
@@ -36,13 +39,14 @@ atLast f [] = []
 atLast f (x ∷ []) = f x ∷ []
 atLast f (x ∷ y ∷ ys) = x ∷ atLast f (y ∷ ys)
 
--- an entry that counts and no more
+-- a test that counts and no more
 abbrev pub within : ℕ → ℕ → ℕ → ℕ → Entry
-within ℓ s j a = record { check = ℓ; digit = s; column = j; factor = a; flags = false; resets = false }
+within ℓ s j a = record { check = ℓ; digit = s; column = j; factor = a; opens = false; flags = false; resets = false }
 
 -- the same as the last of its s: it flags, and it resets where s is z, the last of its ℓ
 abbrev pub ending : ℕ → Entry → Entry
-ending z e = record { check = e .check; digit = e .digit; column = e .column; factor = e .factor; flags = true; resets = eqb (e .digit) z }
+ending z e =
+    record { check = e .check; digit = e .digit; column = e .column; factor = e .factor; opens = e .opens; flags = true; resets = eqb (e .digit) z }
 
 -- the entries of one ℓ and s: each j of J(ℓ) increasing, within it each a
 unfoldable pub ofDigit : ℕ → Shape → ℕ → ℕ → List Entry
@@ -52,9 +56,17 @@ ofDigit z shape ℓ s = atLast (ending z) (overEach (support shape ℓ) (λ j. m
 unfoldable pub ofCheck : ℕ → Shape → ℕ → List Entry
 ofCheck z shape ℓ = joined (shape .digits - z) (λ i. ofDigit z shape ℓ (shape .digits - suc i))
 
--- the whole schedule: ℓ from 0 up; from z = b on there is no entry
+-- the tests: ℓ from 0 up; from z = b on there is none
+unfoldable pub tests : ℕ → Shape → List Entry
+tests z shape = joined (checks shape) (ofCheck z shape)
+
+-- the opening: the all-zero vector, which is 0 × ρ^0 in column 0 and 0 elsewhere, and which every row with a sound line matches
+abbrev pub opening : Entry
+opening = record { check = 0; digit = 0; column = 0; factor = 0; opens = true; flags = true; resets = false }
+
+-- the whole schedule
 unfoldable pub schedule : ℕ → Shape → List Entry
-schedule z shape = joined (checks shape) (ofCheck z shape)
+schedule z shape = opening ∷ tests z shape
 
 -- the vector with x in column j and 0 elsewhere
 unfoldable pub unitVector : ℕ → ℕ → ℕ → List ℕ

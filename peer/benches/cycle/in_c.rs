@@ -48,9 +48,15 @@ impl Array {
     /// Whether the buffers have the lengths that the loops trust in.
     fn fits(&self, state: &State<&mut [u8]>) -> bool {
         state.cells.len() == self.cells()
+            && state.lines.len() == self.rows
             && state.counters.len() == self.rows
             && state.flags.len() == self.rows
             && state.totals.len() == self.blocks()
+    }
+
+    /// Whether cells, lines and inputs have the lengths that the lookups trust in.
+    fn fits_lookup(&self, cells: &[u8], lines: &[u8], inputs: &[u8]) -> bool {
+        cells.len() == self.cells() && lines.len() == self.rows && inputs.len() == self.width
     }
 
     fn cells(&self) -> usize {
@@ -88,6 +94,7 @@ linked! {
         array: *const Array,
         record: *mut Words,
         cells: *mut u8,
+        lines: *mut u8,
         counters: *mut u8,
         flags: *mut u8,
         totals: *mut u8,
@@ -111,11 +118,25 @@ linked! {
         array: *const Array,
         record: *mut Words,
         cells: *const u8,
+        lines: *const u8,
         counters: *mut u8,
         flags: *mut u8,
         totals: *mut u8,
         matches: *mut u8,
     ) -> u8;
+    fn loops_lookup(
+        array: *const Array,
+        cells: *const u8,
+        lines: *const u8,
+        inputs: *const u8,
+        matches: *mut u8,
+    ) -> usize;
+    fn loops_first_match(
+        array: *const Array,
+        cells: *const u8,
+        lines: *const u8,
+        inputs: *const u8,
+    ) -> usize;
     fn loops_panel(array: *const Array, flags: *const u8, totals: *const u8, told: *mut Told);
     fn loops_reading(array: *const Array, flags: *const u8, told: *mut Told);
     fn loops_encode(array: *const Array, row: *mut u8);
@@ -128,6 +149,7 @@ pub fn clear(array: &Array, words: &mut Words, state: State<&mut [u8]>) {
             array,
             words,
             state.cells.as_mut_ptr(),
+            state.lines.as_mut_ptr(),
             state.counters.as_mut_ptr(),
             state.flags.as_mut_ptr(),
             state.totals.as_mut_ptr(),
@@ -169,6 +191,7 @@ pub fn steps(
                 array,
                 words,
                 state.cells.as_ptr(),
+                state.lines.as_ptr(),
                 state.counters.as_mut_ptr(),
                 state.flags.as_mut_ptr(),
                 state.totals.as_mut_ptr(),
@@ -177,6 +200,32 @@ pub fn steps(
         };
         assert_eq!(number, 0);
     }
+}
+
+/// The number of matches.
+pub fn lookup(
+    array: &Array,
+    cells: &[u8],
+    lines: &[u8],
+    inputs: &[u8],
+    matches: &mut [u8],
+) -> usize {
+    assert!(array.fits_lookup(cells, lines, inputs) && matches.len() == array.rows);
+    unsafe {
+        loops_lookup(
+            array,
+            cells.as_ptr(),
+            lines.as_ptr(),
+            inputs.as_ptr(),
+            matches.as_mut_ptr(),
+        )
+    }
+}
+
+/// The first row that matches, m where there is none.
+pub fn first_match(array: &Array, cells: &[u8], lines: &[u8], inputs: &[u8]) -> usize {
+    assert!(array.fits_lookup(cells, lines, inputs));
+    unsafe { loops_first_match(array, cells.as_ptr(), lines.as_ptr(), inputs.as_ptr()) }
 }
 
 pub fn panel(array: &Array, flags: &[u8], totals: &[u8]) -> Told {

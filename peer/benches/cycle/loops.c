@@ -1,13 +1,14 @@
-// Clear, program, start, step, the panel and the encoder as plain loops in C,
-// to compare speed with, and a full reading of the flags beside the panel.
+// Clear, program, start, step, task lookup, first match, the panel and the
+// encoder as plain loops in C, to compare speed with, and a full reading of the
+// flags beside the panel.
 //
 // A program in C would work out sizes and columns once, when it sets the array
 // up, and would trust its own buffers. So these leave out:
 // - questions 1 to 6, questions 7 and 8 of programming, question 15 of the
-//   start, and question 8 of the encoder;
+//   start, and question 8 of the lookups and the encoder;
 // - of question 9, whether the count is that of the place; a step asks that the
-//   cycle is open and that check, digit, column and factor are ones of the
-//   schedule;
+//   cycle is open and that check, digit, column and factor are those of an
+//   opening or of a vector of the schedule;
 // - the remainder of a counter that somebody else wrote.
 
 #include <stddef.h>
@@ -65,10 +66,11 @@ static void clear_rows(size_t rows, uint8_t *counters, uint8_t *flags,
 }
 
 void loops_clear(const struct array *array, struct record *record,
-                 uint8_t *cells, uint8_t *counters, uint8_t *flags,
-                 uint8_t *totals)
+                 uint8_t *cells, uint8_t *lines, uint8_t *counters,
+                 uint8_t *flags, uint8_t *totals)
 {
     memset(cells, 0, array->rows * array->columns);
+    memset(lines, 0, array->rows);
     clear_rows(array->rows, counters, flags, totals);
     *record = idle;
 }
@@ -77,9 +79,17 @@ void loops_start(const struct array *array, struct record *record, size_t skip,
                  uint8_t *counters, uint8_t *flags, uint8_t *totals)
 {
     clear_rows(array->rows, counters, flags, totals);
-    *record = (struct record){
-        OPEN, 0, array->digits - 1, next_held(array, 0, 0), 1, 0, skip,
-    };
+    *record = (struct record){.phase = OPEN, .skip = skip};
+}
+
+// The first vector of a digit of a check.
+static void begin_digit(const struct array *array, struct record *record,
+                        size_t check, size_t digit)
+{
+    record->check = check;
+    record->digit = digit;
+    record->column = next_held(array, check, 0);
+    record->factor = 1;
 }
 
 // The record after the lookup that it stands at.
@@ -99,18 +109,14 @@ static void advance(const struct array *array, struct record *record,
         record->column = next_held(array, record->check, record->column + 1);
         return;
     }
-    if (record->digit > record->skip) {
-        record->digit--;
-    } else if (record->check + 1 < array->checks) {
-        record->check++;
-        record->digit = array->digits - 1;
-    } else {
+    if (record->digit > record->skip)
+        begin_digit(array, record, record->check, record->digit - 1);
+    else if (record->check + 1 < array->checks)
+        begin_digit(array, record, record->check + 1, array->digits - 1);
+    else
         *record = (struct record){
             COMPLETE, 0, 0, 0, 0, record->count, record->skip,
         };
-        return;
-    }
-    record->column = next_held(array, record->check, 0);
 }
 
 // The flagged rows of each block.
@@ -126,12 +132,36 @@ static void count_flags(size_t rows, const uint8_t *restrict flags,
     }
 }
 
+// The opening: all inputs are 0, so a row matches where its line is sound. The
+// others are flagged, and nothing is counted.
+static uint8_t open_cycle(const struct array *array, struct record *record,
+                          const uint8_t *restrict lines,
+                          uint8_t *restrict flags, uint8_t *restrict totals,
+                          uint8_t *restrict matches)
+{
+    size_t rows = array->rows;
+    if (record->check != 0 || record->digit != 0 || record->column != 0 ||
+        record->skip >= array->digits)
+        return 9;
+    for (size_t i = 0; i < rows; i++)
+        matches[i] = lines[i] == 0;
+    for (size_t i = 0; i < rows; i++)
+        flags[i] = matches[i] ? flags[i] : 1;
+    count_flags(rows, flags, totals);
+    begin_digit(array, record, 0, array->digits - 1);
+    record->count++;
+    return 0;
+}
+
 uint8_t loops_step(const struct array *array, struct record *record,
-                   const uint8_t *restrict cells, uint8_t *restrict counters,
+                   const uint8_t *restrict cells,
+                   const uint8_t *restrict lines, uint8_t *restrict counters,
                    uint8_t *restrict flags, uint8_t *restrict totals,
                    uint8_t *restrict matches)
 {
     size_t column = record->column;
+    if (record->phase == OPEN && record->factor == 0)
+        return open_cycle(array, record, lines, flags, totals, matches);
     if (record->phase != OPEN || record->check >= array->checks ||
         record->digit < record->skip || record->digit >= array->digits ||
         column >= array->columns ||
@@ -145,8 +175,9 @@ uint8_t loops_step(const struct array *array, struct record *record,
     uint8_t radix = (uint8_t)array->radix;
     uint8_t input = (uint8_t)(record->factor * array->powers[record->digit]);
     const uint8_t *cell = cells + column;
+    // no branch on the line, so that the loop takes many rows at a time
     for (size_t i = 0; i < rows; i++, cell += columns)
-        matches[i] = *cell >= input;
+        matches[i] = (*cell >= input) & (lines[i] == 0);
     for (size_t i = 0; i < rows; i++) {
         uint8_t sum = (uint8_t)(counters[i] + matches[i]);
         counters[i] = sum == radix ? 0 : sum;
@@ -163,6 +194,40 @@ uint8_t loops_step(const struct array *array, struct record *record,
     }
     advance(array, record, span, ends_digit);
     return 0;
+}
+
+// The match bytes of k inputs, and the number of matches. The check columns are
+// fed 0 and answer 1.
+size_t loops_lookup(const struct array *array, const uint8_t *restrict cells,
+                    const uint8_t *restrict lines,
+                    const uint8_t *restrict inputs, uint8_t *restrict matches)
+{
+    size_t found = 0;
+    for (size_t i = 0; i < array->rows; i++, cells += array->columns) {
+        uint8_t matched = lines[i] == 0;
+        for (size_t j = 0; j < array->width; j++)
+            matched &= cells[j] >= inputs[j];
+        matches[i] = matched;
+        found += matched;
+    }
+    return found;
+}
+
+// The first row that matches k inputs, the number of rows where none does.
+size_t loops_first_match(const struct array *array, const uint8_t *cells,
+                         const uint8_t *lines, const uint8_t *inputs)
+{
+    size_t row = 0;
+    for (; row < array->rows; row++, cells += array->columns) {
+        size_t column = 0;
+        if (lines[row] != 0)
+            continue;
+        while (column < array->width && cells[column] >= inputs[column])
+            column++;
+        if (column == array->width)
+            break;
+    }
+    return row;
 }
 
 // What the panel is told: the sum of the totals, the first flagged row of the

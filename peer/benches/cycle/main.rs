@@ -3,14 +3,15 @@
 //! work in turn on the same buffers, which are set to the same bytes before
 //! each run, and must leave the same bytes. A run is timed in pieces; of each
 //! piece the least time of several runs counts. Words given after `--` choose
-//! the lines whose title has one of them. The works are cycles, the encoder, and
-//! a belt change: a clear and the programming of every row. At the end a coarse
-//! cycle is timed beside the one of all digits, and the panel beside a full
-//! reading of the flags.
+//! the lines whose title has one of them. The works are cycles, the encoder, a
+//! belt change (a clear and the programming of every row), task lookups and first
+//! matches. At the end a coarse cycle is timed beside the one of all digits, and
+//! the panel beside a full reading of the flags.
 
 mod belt;
 mod coarse;
 mod in_c;
+mod lookups;
 mod panel;
 #[path = "../../tests/proved_calls/mod.rs"]
 mod proved_calls;
@@ -18,6 +19,7 @@ mod small_table;
 
 use std::time::{Duration, Instant};
 
+use lookups::Lookup;
 use peer::testing::naive::spec::questions;
 use peer::testing::random::Random;
 use peer::testing::records::{cycle_of, words_of, Words};
@@ -29,8 +31,8 @@ const PATIENCE: Duration = Duration::from_secs(1);
 /// The least number of runs.
 const RUNS: usize = 7;
 
-/// The steps of one piece, and the rows of one piece of the encoder or of a belt
-/// change.
+/// The steps or lookups of one piece, and the rows of one piece of the encoder or
+/// of a belt change.
 const PIECE: usize = 40;
 
 #[derive(Clone, Copy, PartialEq, Eq)]
@@ -79,7 +81,7 @@ struct Steps {
 }
 
 impl Steps {
-    /// The first steps of a cycle of all digits.
+    /// The first steps of a cycle of all digits, its opening among them.
     fn first(steps: usize) -> Steps {
         Steps { skip: 0, steps }
     }
@@ -89,7 +91,7 @@ impl Steps {
         let layout = shape.layout().expect("a good shape");
         Steps {
             skip,
-            steps: layout.lookups(skip),
+            steps: layout.steps(skip),
         }
     }
 }
@@ -103,6 +105,8 @@ enum Work {
     Encode,
     /// A clear and the programming of all rows, one call for each.
     Belt,
+    /// Task lookups or first matches.
+    Lookups(Lookup),
 }
 
 /// The times of the pieces of a run by each build, no piece by C where it is not
@@ -133,6 +137,11 @@ fn main() {
             line(belt::TITLE, shape, Work::Belt);
         }
     }
+    for shape in [Shape::new(2, 3, 2, 50, 512), largest] {
+        for lookup in [Lookup::Task, Lookup::First] {
+            line(lookup.title(), shape, Work::Lookups(lookup));
+        }
+    }
     if chosen(coarse::TITLE) {
         coarse::table(Shape::new(2, 8, 2, 60, 512), 4);
     }
@@ -153,7 +162,7 @@ fn heading() {
     }
     println!(
         "{:55} | {:^29} | {:^29} | {:^13}",
-        "", "microseconds", "ns per row (and step)", "proved /"
+        "", "microseconds", "ns per row (and call)", "proved /"
     );
     print!("{:18} radix digits errors width rows calls |", "work");
     for _ in 0..2 {
@@ -172,6 +181,7 @@ fn line(title: &str, shape: Shape, work: Work) {
         Work::Steps(Steps { steps, .. }) => (steps, steps * shape.rows),
         Work::Encode => (shape.rows, shape.rows),
         Work::Belt => (1 + shape.rows, shape.rows),
+        Work::Lookups(_) => (lookups::CALLS, lookups::CALLS * shape.rows),
     };
     print!("{title:18} {:5} {:6}", shape.radix, shape.digits);
     print!(" {:6} {:5} {:4}", shape.errors, shape.width, shape.rows);
@@ -219,6 +229,7 @@ fn times(shape: Shape, work: Work) -> [Option<Duration>; 3] {
         Work::Steps(steps) => cycle(shape, steps),
         Work::Encode => encoder(shape),
         Work::Belt => belt::change(shape),
+        Work::Lookups(lookup) => lookup.all(shape),
     };
     least.map(|pieces| (!pieces.is_empty()).then(|| pieces.iter().sum()))
 }
@@ -275,8 +286,8 @@ fn least(
     (least, end.expect("a run"))
 }
 
-/// All steps were made; a whole cycle flags and counts the rows that drifted in
-/// a digit that it does not skip.
+/// All steps were made; a whole cycle flags and counts the rows with a dead line
+/// and those that drifted in a digit that it does not skip.
 fn check_end(begin: &Bench, end: &Bench, Steps { skip, steps }: Steps, shape: Shape) {
     let cycle = cycle_of(&end.words);
     assert_eq!((cycle.count, cycle.skip), (steps, skip));
@@ -284,8 +295,9 @@ fn check_end(begin: &Bench, end: &Bench, Steps { skip, steps }: Steps, shape: Sh
         assert_eq!(cycle.phase, Phase::Complete);
         let spec = questions(shape).expect("a good shape");
         for (row, &flag) in end.state.flags.iter().enumerate() {
+            let sound = begin.state.lines[row] == 0;
             let row = spec.row(&begin.state.cells, row);
-            assert_eq!(flag == 0, spec.sums_hold(row, skip));
+            assert_eq!(flag == 0, sound && spec.sums_hold(row, skip));
         }
         let State { flags, totals, .. } = &end.state;
         let panel = peer::panel(shape, flags, totals).expect("a good array");
@@ -388,7 +400,7 @@ fn unencoded(shape: Shape) -> Bench {
 }
 
 /// Rows of random levels with their check cells; in every 16th one cell has
-/// drifted in one binary digit.
+/// drifted in one binary digit, and every 32nd has a dead line.
 fn drifted(shape: Shape) -> Bench {
     let layout = shape.layout().expect("a good shape");
     let mut bench = unencoded(shape);
@@ -400,6 +412,7 @@ fn drifted(shape: Shape) -> Bench {
             let column = random.below(layout.columns());
             row[column] ^= 1 << random.below(shape.digits);
         }
+        bench.state.lines[number] = u8::from(number % 32 == 9);
     }
     bench
 }

@@ -8,6 +8,7 @@ impl<B> Call<B> {
         match self {
             Call::Program { row, .. }
             | Call::Drift { row, .. }
+            | Call::Line { row, .. }
             | Call::Sound { row }
             | Call::Read { row, .. } => Some(row),
             _ => None,
@@ -26,6 +27,14 @@ impl<B> Call<B> {
     pub fn level_mut(&mut self) -> Option<&mut u8> {
         match self {
             Call::Drift { level, .. } => Some(level),
+            _ => None,
+        }
+    }
+
+    /// The line byte.
+    pub fn line_mut(&mut self) -> Option<&mut u8> {
+        match self {
+            Call::Line { byte, .. } => Some(byte),
             _ => None,
         }
     }

@@ -4,6 +4,7 @@
 use crate::call::{Call, Name};
 use crate::shape::Layout;
 use crate::testing::lent::Own;
+use crate::testing::lines::settable;
 use crate::testing::random::Random;
 
 /// Where the arguments of a call come from.
@@ -19,6 +20,8 @@ pub trait Draw {
     fn column(&mut self) -> usize;
     /// A level for one cell.
     fn level(&mut self) -> u8;
+    /// A line byte for one row.
+    fn line(&mut self) -> u8;
     /// Inputs of a lookup.
     fn inputs(&mut self) -> Vec<u8>;
     /// The number of low digits that a cycle skips.
@@ -39,6 +42,10 @@ pub fn call<D: Draw>(name: Name, draw: &mut D) -> Call<D::Buffer> {
             row: draw.row(),
             column: draw.column(),
             level: draw.level(),
+        },
+        Name::Line => Call::Line {
+            row: draw.row(),
+            byte: draw.line(),
         },
         Name::Lookup => Call::Lookup {
             inputs: draw.inputs(),
@@ -94,6 +101,10 @@ impl Draw for Right<'_> {
 
     fn level(&mut self) -> u8 {
         self.random.level(self.layout.levels())
+    }
+
+    fn line(&mut self) -> u8 {
+        settable(self.random)
     }
 
     /// Often low ones, so that rows match.

@@ -40,6 +40,11 @@ impl Own {
     }
 }
 
+/// Lengths that a buffer must not have of which question 6 asks the given one.
+pub fn wrong_lengths(right: usize) -> [usize; 3] {
+    [0, right - 1, right + 1]
+}
+
 /// A `B` for each buffer of the state, and for each one of a call's own in the
 /// order of [`Own`].
 #[derive(Clone, Copy, Debug, PartialEq, Eq)]

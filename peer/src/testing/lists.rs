@@ -1,21 +1,24 @@
-//! Random lists of the six calls of demand 3.
+//! Random lists of the calls of demand 3.
 
 use crate::call::{Call, Name};
 use crate::shape::{Layout, Shape};
 use crate::testing::draw::{self, some_bytes, some_length, some_number, Draw};
 use crate::testing::lent::Own;
+use crate::testing::lines::settable;
 use crate::testing::random::Random;
 use crate::testing::shapes::layout;
 use crate::testing::skips::too_many;
 
 /// The calls of a list, each as often as its share.
-const SHARES: [Name; 12] = [
+const SHARES: [Name; 14] = [
     Name::Clear,
     Name::Program,
     Name::Program,
     Name::Drift,
     Name::Drift,
     Name::Drift,
+    Name::Line,
+    Name::Line,
     Name::Lookup,
     Name::Lookup,
     Name::Start,
@@ -25,8 +28,8 @@ const SHARES: [Name; 12] = [
 ];
 
 /// A list of so many pieces: a piece is one call with arbitrary arguments, a
-/// row programmed and then changed in a few cells, or a cycle that is run to
-/// its end, mostly without a disturbance.
+/// row programmed and then changed in a few cells and perhaps in its line, or a
+/// cycle that is run to its end, mostly without a disturbance.
 pub fn list(random: &mut Random, shape: Shape, pieces: usize) -> Vec<Call<Vec<u8>>> {
     let layout = layout(shape);
     let mut calls = Vec::new();
@@ -46,7 +49,8 @@ fn some_call(random: &mut Random, layout: &Layout) -> Call<Vec<u8>> {
     draw::call(name, &mut Mostly { random, layout })
 }
 
-/// Programs a row, then lets up to four of its cells drift.
+/// Programs a row, then lets up to four of its cells drift; now and then its line
+/// is set too.
 fn push_changed_row(random: &mut Random, layout: &Layout, calls: &mut Vec<Call<Vec<u8>>>) {
     let row = random.below(layout.rows());
     if random.one_in(2) {
@@ -60,6 +64,17 @@ fn push_changed_row(random: &mut Random, layout: &Layout, calls: &mut Vec<Call<V
             level: random.level(layout.levels()),
         });
     }
+    if random.one_in(3) {
+        calls.push(right_line(random, row));
+    }
+}
+
+/// The line of a row is set to a byte that the call takes.
+fn right_line(random: &mut Random, row: usize) -> Call<Vec<u8>> {
+    Call::Line {
+        row,
+        byte: settable(random),
+    }
 }
 
 /// Starts a cycle that skips any number of digits, and makes all its steps; now
@@ -68,25 +83,29 @@ fn push_cycle(random: &mut Random, layout: &Layout, calls: &mut Vec<Call<Vec<u8>
     let skip = random.below(layout.digits());
     calls.push(Call::Start { skip });
     let disturbed = random.one_in(3);
-    let lookups = layout.lookups(skip);
-    for _ in 0..lookups + random.below(2) {
+    let steps = layout.steps(skip);
+    for _ in 0..steps + random.below(2) {
         calls.push(Call::Step {
             matches: random.bytes(layout.rows()),
         });
-        if disturbed && random.one_in(lookups) {
+        if disturbed && random.one_in(steps) {
             calls.push(some_disturbance(random, layout));
         }
     }
 }
 
-/// A call that comes into a cycle: any, or a start that is refused.
+/// A call that comes into a cycle: any, a start that is refused, or a line that
+/// is set.
 fn some_disturbance(random: &mut Random, layout: &Layout) -> Call<Vec<u8>> {
-    if random.one_in(4) {
-        Call::Start {
+    match random.below(4) {
+        0 => Call::Start {
             skip: random.pick(&too_many(layout.digits())),
+        },
+        1 => {
+            let row = random.below(layout.rows());
+            right_line(random, row)
         }
-    } else {
-        some_call(random, layout)
+        _ => some_call(random, layout),
     }
 }
 
@@ -131,6 +150,15 @@ impl Draw for Mostly<'_> {
             self.random.byte()
         } else {
             self.random.level(self.layout.levels())
+        }
+    }
+
+    /// Mostly a byte that the line call takes, else any.
+    fn line(&mut self) -> u8 {
+        if self.random.one_in(6) {
+            self.random.byte()
+        } else {
+            settable(self.random)
         }
     }
 

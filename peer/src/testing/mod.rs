@@ -19,6 +19,8 @@
 //!   a call, and lists of calls;
 //! - [`lent`], [`guard`]: what is lent to a call, and the bytes around it;
 //! - [`panels`]: an example, flags and totals for the panel, and what it did;
+//! - [`lines`]: an example of a dead line, line bytes of every kind, records
+//!   beside that of an opening, and what was seen of dead lines;
 //! - [`skips`]: an example of coarse cycles, numbers of digits that no start
 //!   takes, and what was seen of skipped digits;
 //! - [`verdict`]: what a flag says after a cycle;
@@ -33,6 +35,7 @@ pub mod draw;
 pub mod guard;
 pub mod jobs;
 pub mod lent;
+pub mod lines;
 pub mod lists;
 pub mod naive;
 pub mod panels;

@@ -51,11 +51,6 @@ pub const EXAMPLE: Example = Example {
 /// The calls that are lent the totals.
 pub const WITH_TOTALS: [Name; 5] = [Name::Clear, Name::Start, Name::Step, Name::Run, Name::Panel];
 
-/// Lengths that the totals of so many blocks must not have.
-pub fn wrong_lengths(blocks: usize) -> [usize; 3] {
-    [0, blocks - 1, blocks + 1]
-}
-
 /// Any flags and totals, many of them 0.
 pub fn foreign(random: &mut Random, layout: &Layout) -> (Vec<u8>, Vec<u8>) {
     let times = random.pick(&[1, 8, 64, 512, 4096]);

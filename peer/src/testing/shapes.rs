@@ -30,7 +30,7 @@ pub fn small_shape(random: &mut Random) -> Shape {
 }
 
 /// A small shape whose cycle of all digits has at most so many lookups (three
-/// or more).
+/// or more) besides its opening.
 pub fn short_cycle_shape(random: &mut Random, lookups: usize) -> Shape {
     loop {
         let shape = small_shape(random);

@@ -17,6 +17,7 @@ fn own_questions(name: Name) -> &'static [u8] {
     match name {
         Name::Clear | Name::Panel => &[],
         Name::Program | Name::Drift => &[7, 8],
+        Name::Line => &[7, 16],
         Name::Lookup | Name::FirstMatch | Name::Encode => &[8],
         Name::Start | Name::Run => &[15],
         Name::Step => &[9],

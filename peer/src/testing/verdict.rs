@@ -1,28 +1,49 @@
-//! What the flag of a row says after a cycle in which no cell drifted.
+//! What the flag of a row says after a cycle in which neither cells nor lines
+//! changed.
 
 use crate::testing::naive::spec::Spec;
 
-/// The number of cells in which floor(level / ρ^z) differs.
-pub fn differing(spec: &Spec, written: &[u8], standing: &[u8], skip: usize) -> usize {
-    let floor = |&level: &u8| usize::from(level) / spec.shape.radix.pow(skip as u32);
-    let pairs = written.iter().zip(standing);
-    pairs.filter(|(one, two)| floor(one) != floor(two)).count()
+/// A row of levels.
+#[derive(Clone, Copy, Debug)]
+pub struct Row<'a> {
+    /// As it was written.
+    pub written: &'a [u8],
+    /// As it stands.
+    pub standing: &'a [u8],
+    /// Its line byte.
+    pub line: u8,
 }
 
-/// The flag is right for a row of levels: 1 exactly where a sum of the digits
-/// from z on is not 0; and where the row differs in at most τ cells above the
-/// skipped digits, 1 exactly where it differs there.
+impl Row<'_> {
+    /// Whether its line is dead.
+    pub fn is_dead(&self) -> bool {
+        self.line != 0
+    }
+
+    /// The number of cells in which floor(level / ρ^z) differs.
+    pub fn differing(&self, spec: &Spec, skip: usize) -> usize {
+        let floor = |&level: &u8| usize::from(level) / spec.shape.radix.pow(skip as u32);
+        let pairs = self.written.iter().zip(self.standing);
+        pairs.filter(|(one, two)| floor(one) != floor(two)).count()
+    }
+}
+
+/// The flag is right: 1 exactly where the line is dead or a sum of the digits
+/// from z on is not 0. Where the row differs in at most τ cells above the
+/// skipped digits, that is exactly where the line is dead or a cell differs
+/// there; and a row with a dead line is flagged however many cells differ.
 ///
 /// # Panics
 ///
 /// If that is not so.
-pub fn assert_flag(spec: &Spec, written: &[u8], standing: &[u8], skip: usize, flag: u8) {
+pub fn assert_flag(spec: &Spec, row: Row, skip: usize, flag: u8) {
     let shape = spec.shape;
-    let right = u8::from(!spec.sums_hold(standing, skip));
-    assert_eq!(flag, right, "{shape} skip {skip} {standing:?}");
-    let above = differing(spec, written, standing, skip);
-    if above <= shape.errors {
-        let right = u8::from(above > 0);
-        assert_eq!(flag, right, "{shape} skip {skip} {written:?} {standing:?}");
+    let right = |reason: bool| {
+        assert_eq!(flag, u8::from(reason), "{shape} skip {skip} {row:?}");
+    };
+    right(row.is_dead() || !spec.sums_hold(row.standing, skip));
+    let differing = row.differing(spec, skip);
+    if row.is_dead() || differing <= shape.errors {
+        right(row.is_dead() || differing > 0);
     }
 }

@@ -1,6 +1,6 @@
 // The calls by their header: document 01's rows M1, M2 and M5, a drift, the cycle that finds it,
-// what the panel is told, coarse cycles, and refusals. The exit status is the number of the first
-// line that is not as it should be, modulo 255 and never 0, or 0.
+// what the panel is told, coarse cycles, a dead match line, and refusals. The exit status is the
+// number of the first line of this file that is not as it should be, modulo 255 and never 0, or 0.
 #include "jorivelune.h"
 
 #include <string.h>
@@ -15,13 +15,14 @@ static int whole_cycle(void)
 {
     struct jorivelune_shape shape = {2, 3, 1, 3, 2};
     size_t record[JORIVELUNE_WORDS] = {0};
-    uint8_t cells[8], counters[2], flags[2], totals[1] = {7}, matches[2], out[3];
+    uint8_t cells[8], lines[2] = {7, 7}, counters[2], flags[2], totals[1] = {7}, matches[2], out[3];
     const uint8_t m1[4] = {5, 2, 1, 6}, m2[4] = {4, 3, 1, 6};
     size_t count = 9, found = 9, steps = 0, total = 9, first = 9, read = 9;
     bool holds = false;
 
-    EXPECT(jorivelune_clear(record, shape, cells, 8, counters, 2, flags, 2, totals, 1) == 0);
-    EXPECT(totals[0] == 0);
+    EXPECT(jorivelune_clear(record, shape, cells, 8, lines, 2, counters, 2, flags, 2,
+                            totals, 1) == 0);
+    EXPECT(totals[0] == 0 && lines[0] == 0 && lines[1] == 0);
     EXPECT(jorivelune_program(record, shape, cells, 8, 0, m1, 3) == 0);
     EXPECT(jorivelune_program(record, shape, cells, 8, 1, m2, 3) == 0);
     EXPECT(memcmp(cells, m1, 4) == 0 && memcmp(cells + 4, m2, 4) == 0);
@@ -29,28 +30,29 @@ static int whole_cycle(void)
     EXPECT(jorivelune_sound(shape, cells, 8, 1, &holds) == 0 && holds);
 
     // 4 3 1 matches the second row alone, 5 3 2 no row
-    EXPECT(jorivelune_lookup(shape, cells, 8, m2, 3, matches, 2, &count) == 0);
+    EXPECT(jorivelune_lookup(shape, cells, 8, lines, 2, m2, 3, matches, 2, &count) == 0);
     EXPECT(count == 1 && matches[0] == 0 && matches[1] == 1);
-    EXPECT(jorivelune_first_match(shape, cells, 8, m2, 3, &found) == 0 && found == 1);
+    EXPECT(jorivelune_first_match(shape, cells, 8, lines, 2, m2, 3, &found) == 0 && found == 1);
     const uint8_t none[3] = {5, 3, 2};
-    EXPECT(jorivelune_first_match(shape, cells, 8, none, 3, &found) == 0 && found == shape.rows);
+    EXPECT(jorivelune_first_match(shape, cells, 8, lines, 2, none, 3, &found) == 0);
+    EXPECT(found == shape.rows);
 
-    // one cell of the second row drifts; (q - 1) x W = 7 x 4 steps find it
+    // one cell of the second row drifts; an opening and (q - 1) x W = 7 x 4 steps find it
     EXPECT(jorivelune_drift(shape, cells, 8, 1, 2, 7) == 0);
     totals[0] = 7;
     EXPECT(jorivelune_start(record, shape, 0, counters, 2, flags, 2, totals, 1) == 0);
     EXPECT(totals[0] == 0);
     while (record[JORIVELUNE_PHASE] == 1) {
-        EXPECT(jorivelune_step(record, shape, cells, 8, counters, 2, flags, 2, totals, 1,
+        EXPECT(jorivelune_step(record, shape, cells, 8, lines, 2, counters, 2, flags, 2, totals, 1,
                                matches, 2) == 0);
         steps++;
     }
-    EXPECT(record[JORIVELUNE_PHASE] == 2 && record[JORIVELUNE_COUNT] == 28 && steps == 28);
+    EXPECT(record[JORIVELUNE_PHASE] == 2 && record[JORIVELUNE_COUNT] == 29 && steps == 29);
     EXPECT(flags[0] == 0 && flags[1] == 1 && totals[0] == 1);
     totals[0] = 7;
-    EXPECT(jorivelune_run(record, shape, 0, cells, 8, counters, 2, flags, 2, totals, 1,
+    EXPECT(jorivelune_run(record, shape, 0, cells, 8, lines, 2, counters, 2, flags, 2, totals, 1,
                           matches, 2) == 0);
-    EXPECT(record[JORIVELUNE_COUNT] == 28 && flags[0] == 0 && flags[1] == 1 && totals[0] == 1);
+    EXPECT(record[JORIVELUNE_COUNT] == 29 && flags[0] == 0 && flags[1] == 1 && totals[0] == 1);
     EXPECT(record[JORIVELUNE_SKIP] == 0);
 
     // the panel: one flagged row, found by reading both flags; none where the total is 0
@@ -63,14 +65,15 @@ static int whole_cycle(void)
     // refusals: no lookup to come, wrong lengths, no such row, a level too high, a shape with b = 0
     size_t before[JORIVELUNE_WORDS];
     memcpy(before, record, sizeof record);
-    EXPECT(jorivelune_step(record, shape, cells, 8, counters, 2, flags, 2, totals, 1,
+    EXPECT(jorivelune_step(record, shape, cells, 8, lines, 2, counters, 2, flags, 2, totals, 1,
                            matches, 2) == 9);
     EXPECT(jorivelune_start(record, shape, 0, counters, 1, flags, 2, totals, 1) == 6);
-    EXPECT(jorivelune_clear(record, shape, cells, 8, counters, 2, flags, 2, totals, 0) == 6);
+    EXPECT(jorivelune_clear(record, shape, cells, 8, lines, 2, counters, 2, flags, 2,
+                            totals, 0) == 6);
     EXPECT(jorivelune_start(record, shape, 0, counters, 2, flags, 2, totals, 0) == 6);
-    EXPECT(jorivelune_step(record, shape, cells, 8, counters, 2, flags, 2, totals, 0,
+    EXPECT(jorivelune_step(record, shape, cells, 8, lines, 2, counters, 2, flags, 2, totals, 0,
                            matches, 2) == 6);
-    EXPECT(jorivelune_run(record, shape, 0, cells, 8, counters, 2, flags, 2, totals, 0,
+    EXPECT(jorivelune_run(record, shape, 0, cells, 8, lines, 2, counters, 2, flags, 2, totals, 0,
                           matches, 2) == 6);
     EXPECT(memcmp(before, record, sizeof record) == 0);
     EXPECT(memcmp(cells, m1, 4) == 0 && flags[0] == 0 && flags[1] == 1 && totals[0] == 1);
@@ -87,30 +90,32 @@ static int whole_cycle(void)
 }
 
 // The lowest digit of a cell in the first row changes and the highest of one in the second. Cycles
-// that skip 0, 1 and 2 digits take (8 / 2^z - 1) x 4 steps; the coarse ones see the second alone.
+// that skip 0, 1 and 2 digits take 1 + (8 / 2^z - 1) x 4 steps; the coarse ones see the second
+// alone.
 static int coarse_cycles(void)
 {
     const struct jorivelune_shape shape = {2, 3, 1, 3, 2};
     const uint8_t m1[3] = {5, 2, 1}, flagged[3][2] = {{1, 1}, {0, 1}, {0, 1}};
-    const size_t steps[3] = {28, 12, 4}, idle[JORIVELUNE_WORDS] = {0};
+    const size_t steps[3] = {29, 13, 5}, idle[JORIVELUNE_WORDS] = {0};
     size_t record[JORIVELUNE_WORDS] = {0}, before[JORIVELUNE_WORDS];
-    uint8_t cells[8], counters[2], flags[2], totals[1], matches[2];
+    uint8_t cells[8], lines[2], counters[2], flags[2], totals[1], matches[2];
 
-    EXPECT(jorivelune_clear(record, shape, cells, 8, counters, 2, flags, 2, totals, 1) == 0);
+    EXPECT(jorivelune_clear(record, shape, cells, 8, lines, 2, counters, 2, flags, 2,
+                            totals, 1) == 0);
     EXPECT(jorivelune_program(record, shape, cells, 8, 0, m1, 3) == 0);
     EXPECT(jorivelune_drift(shape, cells, 8, 0, 2, 0) == 0);
     EXPECT(jorivelune_drift(shape, cells, 8, 1, 2, 4) == 0);
     for (size_t skip = 0; skip < 3; skip++) {
         EXPECT(jorivelune_start(record, shape, skip, counters, 2, flags, 2, totals, 1) == 0);
-        EXPECT(record[JORIVELUNE_DIGIT] == 2 && record[JORIVELUNE_SKIP] == skip);
+        EXPECT(record[JORIVELUNE_DIGIT] == 0 && record[JORIVELUNE_SKIP] == skip);
         while (record[JORIVELUNE_PHASE] == 1)
-            EXPECT(jorivelune_step(record, shape, cells, 8, counters, 2, flags, 2, totals, 1,
-                                   matches, 2) == 0);
+            EXPECT(jorivelune_step(record, shape, cells, 8, lines, 2, counters, 2, flags, 2,
+                                   totals, 1, matches, 2) == 0);
         EXPECT(record[JORIVELUNE_COUNT] == steps[skip] && record[JORIVELUNE_SKIP] == skip);
         EXPECT(record[JORIVELUNE_PHASE] == 2 && memcmp(flags, flagged[skip], 2) == 0);
         memset(flags, 7, 2);
-        EXPECT(jorivelune_run(record, shape, skip, cells, 8, counters, 2, flags, 2, totals, 1,
-                              matches, 2) == 0);
+        EXPECT(jorivelune_run(record, shape, skip, cells, 8, lines, 2, counters, 2, flags, 2,
+                              totals, 1, matches, 2) == 0);
         EXPECT(record[JORIVELUNE_COUNT] == steps[skip] && record[JORIVELUNE_SKIP] == skip);
         EXPECT(record[JORIVELUNE_PHASE] == 2 && memcmp(flags, flagged[skip], 2) == 0);
     }
@@ -123,27 +128,27 @@ static int coarse_cycles(void)
     EXPECT(jorivelune_start(record, shape, 3, counters, 2, flags, 2, totals, 1) == 15);
     EXPECT(jorivelune_start(record, shape, SIZE_MAX, counters, 1, flags, 2, totals, 1) == 15);
     EXPECT(jorivelune_start(record, tall, 3, counters, 2, flags, 2, totals, 1) == 5);
-    EXPECT(jorivelune_run(record, shape, 3, cells, 8, counters, 2, flags, 2, totals, 1,
+    EXPECT(jorivelune_run(record, shape, 3, cells, 8, lines, 2, counters, 2, flags, 2, totals, 1,
                           matches, 1) == 15);
     EXPECT(memcmp(before, record, sizeof record) == 0);
 
     // a step refuses a record with 3 digits to skip, and one whose phase has no name
     record[JORIVELUNE_SKIP] = 3;
-    EXPECT(jorivelune_step(record, shape, cells, 8, counters, 2, flags, 2, totals, 1,
+    EXPECT(jorivelune_step(record, shape, cells, 8, lines, 2, counters, 2, flags, 2, totals, 1,
                            matches, 2) == 9);
     EXPECT(record[JORIVELUNE_SKIP] == 3);
     memcpy(record, before, sizeof record);
     record[JORIVELUNE_PHASE] = 3;
-    EXPECT(jorivelune_step(record, shape, cells, 8, counters, 2, flags, 2, totals, 1,
+    EXPECT(jorivelune_step(record, shape, cells, 8, lines, 2, counters, 2, flags, 2, totals, 1,
                            matches, 2) == 9);
     EXPECT(record[JORIVELUNE_PHASE] == 3 && record[JORIVELUNE_SKIP] == 1);
 
     // the cycle goes on all the same; programming makes all words 0
     memcpy(record, before, sizeof record);
     while (record[JORIVELUNE_PHASE] == 1)
-        EXPECT(jorivelune_step(record, shape, cells, 8, counters, 2, flags, 2, totals, 1,
+        EXPECT(jorivelune_step(record, shape, cells, 8, lines, 2, counters, 2, flags, 2, totals, 1,
                                matches, 2) == 0);
-    EXPECT(record[JORIVELUNE_COUNT] == 12 && memcmp(flags, flagged[1], 2) == 0);
+    EXPECT(record[JORIVELUNE_COUNT] == 13 && memcmp(flags, flagged[1], 2) == 0);
     EXPECT(jorivelune_program(record, shape, cells, 8, 0, m1, 3) == 0);
     EXPECT(memcmp(idle, record, sizeof record) == 0);
     return 0;
@@ -156,10 +161,11 @@ static int decimal_digits(void)
     const struct jorivelune_shape shape = {10, 2, 2, 1, 1};
     const uint8_t m5[3] = {37, 73, 73};
     size_t record[JORIVELUNE_WORDS] = {0};
-    uint8_t cells[3], counters[1], flags[1], totals[1];
+    uint8_t cells[3], lines[1], counters[1], flags[1], totals[1];
     bool holds = false;
 
-    EXPECT(jorivelune_clear(record, shape, cells, 3, counters, 1, flags, 1, totals, 1) == 0);
+    EXPECT(jorivelune_clear(record, shape, cells, 3, lines, 1, counters, 1, flags, 1,
+                            totals, 1) == 0);
     EXPECT(jorivelune_program(record, shape, cells, 3, 0, m5, 1) == 0);
     EXPECT(memcmp(cells, m5, 3) == 0);
     EXPECT(jorivelune_sound(shape, cells, 3, 0, &holds) == 0 && holds);
@@ -170,10 +176,90 @@ static int decimal_digits(void)
     return 0;
 }
 
+// The first of two equal rows has a dead line. It matches nothing, first match passes it over, and
+// the opening of a cycle flags it, though its cells are as they were written.
+static int dead_line(void)
+{
+    const struct jorivelune_shape shape = {2, 3, 1, 3, 2};
+    const uint8_t m1[3] = {5, 2, 1}, dead[2] = {1, 0}, foreign[2] = {2, 255};
+    size_t record[JORIVELUNE_WORDS] = {0}, count = 9, found = 9;
+    uint8_t cells[8], lines[2], counters[2], flags[2], totals[1], matches[2] = {7, 7};
+    bool holds = false;
+
+    EXPECT(jorivelune_clear(record, shape, cells, 8, lines, 2, counters, 2, flags, 2,
+                            totals, 1) == 0);
+    EXPECT(jorivelune_program(record, shape, cells, 8, 0, m1, 3) == 0);
+    EXPECT(jorivelune_program(record, shape, cells, 8, 1, m1, 3) == 0);
+    EXPECT(jorivelune_first_match(shape, cells, 8, lines, 2, m1, 3, &found) == 0 && found == 0);
+    EXPECT(jorivelune_line(shape, lines, 2, 0, 1) == 0 && memcmp(lines, dead, 2) == 0);
+    EXPECT(jorivelune_first_match(shape, cells, 8, lines, 2, m1, 3, &found) == 0 && found == 1);
+    EXPECT(jorivelune_lookup(shape, cells, 8, lines, 2, m1, 3, matches, 2, &count) == 0);
+    EXPECT(count == 1 && matches[0] == 0 && matches[1] == 1);
+
+    // the line call's questions: a byte above 1 is refused last
+    EXPECT(jorivelune_line(shape, lines, 2, 1, 2) == 16);
+    EXPECT(jorivelune_line(shape, lines, 2, 1, 255) == 16);
+    EXPECT(jorivelune_line(shape, lines, 2, 2, 2) == 7);
+    EXPECT(jorivelune_line(shape, lines, 1, 2, 2) == 6);
+    struct jorivelune_shape tall = shape;
+    tall.rows = 4097;
+    EXPECT(jorivelune_line(tall, lines, 1, 2, 2) == 5);
+    EXPECT(memcmp(lines, dead, 2) == 0);
+
+    // the opening has no place, flags the row and leaves the counters; the first vector comes next
+    EXPECT(jorivelune_start(record, shape, 0, counters, 2, flags, 2, totals, 1) == 0);
+    EXPECT(record[JORIVELUNE_PHASE] == 1 && record[JORIVELUNE_COUNT] == 0);
+    EXPECT(record[JORIVELUNE_CHECK] == 0 && record[JORIVELUNE_DIGIT] == 0);
+    EXPECT(record[JORIVELUNE_COLUMN] == 0 && record[JORIVELUNE_FACTOR] == 0);
+    counters[0] = 7;
+    EXPECT(jorivelune_step(record, shape, cells, 8, lines, 2, counters, 2, flags, 2, totals, 1,
+                           matches, 2) == 0);
+    EXPECT(matches[0] == 0 && matches[1] == 1 && flags[0] == 1 && flags[1] == 0);
+    EXPECT(counters[0] == 7 && counters[1] == 0 && totals[0] == 1);
+    EXPECT(record[JORIVELUNE_PHASE] == 1 && record[JORIVELUNE_COUNT] == 1);
+    EXPECT(record[JORIVELUNE_DIGIT] == 2 && record[JORIVELUNE_FACTOR] == 1);
+
+    // whole cycles flag it until its line is sound again; programming does not help
+    EXPECT(jorivelune_run(record, shape, 0, cells, 8, lines, 2, counters, 2, flags, 2, totals, 1,
+                          matches, 2) == 0);
+    EXPECT(record[JORIVELUNE_COUNT] == 29 && flags[0] == 1 && flags[1] == 0 && totals[0] == 1);
+    EXPECT(jorivelune_sound(shape, cells, 8, 0, &holds) == 0 && holds);
+    EXPECT(jorivelune_program(record, shape, cells, 8, 0, m1, 3) == 0);
+    EXPECT(jorivelune_run(record, shape, 2, cells, 8, lines, 2, counters, 2, flags, 2, totals, 1,
+                          matches, 2) == 0);
+    EXPECT(record[JORIVELUNE_COUNT] == 5 && flags[0] == 1 && flags[1] == 0);
+    EXPECT(jorivelune_line(shape, lines, 2, 0, 0) == 0 && lines[0] == 0);
+    EXPECT(jorivelune_run(record, shape, 0, cells, 8, lines, 2, counters, 2, flags, 2, totals, 1,
+                          matches, 2) == 0);
+    EXPECT(flags[0] == 0 && flags[1] == 0 && totals[0] == 0);
+
+    // bytes that no call sets are dead too, and stay
+    memcpy(lines, foreign, 2);
+    EXPECT(jorivelune_first_match(shape, cells, 8, lines, 2, m1, 3, &found) == 0);
+    EXPECT(found == shape.rows);
+    EXPECT(jorivelune_run(record, shape, 0, cells, 8, lines, 2, counters, 2, flags, 2, totals, 1,
+                          matches, 2) == 0);
+    EXPECT(flags[0] == 1 && flags[1] == 1 && totals[0] == 2 && memcmp(lines, foreign, 2) == 0);
+
+    // a wrong length is refused by each call that is lent the lines
+    EXPECT(jorivelune_clear(record, shape, cells, 8, lines, 1, counters, 2, flags, 2,
+                            totals, 1) == 6);
+    EXPECT(jorivelune_step(record, shape, cells, 8, lines, 1, counters, 2, flags, 2, totals, 1,
+                           matches, 2) == 6);
+    EXPECT(jorivelune_run(record, shape, 0, cells, 8, lines, 1, counters, 2, flags, 2, totals, 1,
+                          matches, 2) == 6);
+    EXPECT(jorivelune_lookup(shape, cells, 8, lines, 1, m1, 3, matches, 2, &count) == 6);
+    EXPECT(jorivelune_first_match(shape, cells, 8, lines, 1, m1, 3, &found) == 6);
+    EXPECT(count == 0 && found == 0 && memcmp(lines, foreign, 2) == 0);
+    return 0;
+}
+
 int main(void)
 {
     int wrong = whole_cycle();
     if (!wrong)
         wrong = coarse_cycles();
+    if (!wrong)
+        wrong = dead_line();
     return wrong ? wrong : decimal_digits();
 }

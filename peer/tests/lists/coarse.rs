@@ -65,7 +65,7 @@ fn steps_with_another_skip_are_answered_the_same() {
 fn places(schedules: &[Schedule]) -> impl Iterator<Item = (&Schedule, usize)> {
     schedules
         .iter()
-        .flat_map(|schedule| (0..schedule.lookups()).map(move |count| (schedule, count)))
+        .flat_map(|schedule| (0..schedule.steps()).map(move |count| (schedule, count)))
 }
 
 /// The example of the coarse cycle, and a number of digits that is refused.

@@ -30,6 +30,7 @@ impl Drawn {
                 5 => self.change_skip(random, layout),
                 6 => {
                     *self.call.level_mut().unwrap_or(&mut 0) = random.byte();
+                    *self.call.line_mut().unwrap_or(&mut 0) = random.byte();
                     spoil_level(random, self.call.levels_mut().unwrap_or(&mut none));
                 }
                 _ => {

@@ -3,6 +3,7 @@
 use peer::testing::draw::{self, Right};
 use peer::testing::guard::Guarded;
 use peer::testing::lent::{Lent, Own};
+use peer::testing::lines::{any_lines, Lines};
 use peer::testing::naive::schedule::Schedule;
 use peer::testing::naive::spec::questions;
 use peer::testing::panels::Cases;
@@ -32,6 +33,8 @@ pub struct Seen {
     pub nameless: usize,
     /// What was done with skipped digits.
     pub skips: Skips,
+    /// What lines the calls were lent.
+    pub lines: Lines,
     /// What the panel was told.
     pub panels: Cases,
 }
@@ -50,16 +53,19 @@ pub struct List<'a> {
 }
 
 impl<'a> List<'a> {
-    /// The beginning: buffers with any bytes and a record with any fields.
+    /// The beginning: buffers with any bytes and a record with any fields. Of the
+    /// lines not all are dead, so that rows match.
     pub fn new(seed: u64, shape: impl Fn(&mut Random) -> Shape, seen: &'a mut Seen) -> List<'a> {
         let mut random = Random::new(seed);
         let shape = shape(&mut random);
         let layout = shape.layout().expect("a good shape");
         let lengths = Lent::lengths(&layout);
-        let side = Side {
+        let mut side = Side {
             lent: lengths.map(|length| Guarded::drawn(&mut random, length)),
             words: words_of(forged(&mut random, Cycle::IDLE)),
         };
+        let lines = any_lines(&mut random, shape.rows);
+        side.lent.state.lines.copy_from_slice(&lines);
         let mut list = List {
             random,
             shape,
@@ -115,6 +121,8 @@ impl<'a> List<'a> {
     pub fn make(&mut self, drawn: Drawn) -> Answer {
         let name = drawn.call.name();
         let before = self.record();
+        let mut lines = self.ours.lent.state.lines.clone();
+        lines.set_length(drawn.lengths.state.lines);
         let (proved, arguments) = self.proved.proved(&drawn);
         let ours = self.ours.ours(&drawn);
         let unwritten = arguments == drawn.call.clone().map(|_| ());
@@ -129,6 +137,7 @@ impl<'a> List<'a> {
         let after = self.record();
         self.seen.tally.add(name, ours);
         self.seen.skips.add(name, ours, before, after);
+        self.seen.lines.add(name, ours, before, &lines);
         self.seen.by_errors[self.shape.errors] += 1;
         if name == Name::Step && ours == Answer::Done && after.phase == Phase::Complete {
             self.seen.ended += 1;

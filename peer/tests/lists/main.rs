@@ -7,6 +7,7 @@
 mod coarse;
 mod drawn;
 mod event;
+mod lines;
 mod list;
 mod pieces;
 #[path = "../proved_calls/mod.rs"]
@@ -56,6 +57,7 @@ fn random_lists_leave_the_same() {
     assert!(seen.forged >= 1_000 && seen.nameless >= 100);
     seen.tally.assert_complete();
     seen.skips.assert_each(80);
+    seen.lines.assert_each(80);
     seen.panels.assert_each(1);
 }
 

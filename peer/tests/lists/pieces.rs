@@ -1,8 +1,9 @@
 //! The pieces of which a list is made.
 
 use peer::testing::draw::some_number;
-use peer::testing::lent::Lent;
-use peer::testing::panels::{foreign, wrong_lengths, WITH_TOTALS};
+use peer::testing::lent::{wrong_lengths, Lent};
+use peer::testing::lines::{any_lines, WITH_LINES};
+use peer::testing::panels::{foreign, WITH_TOTALS};
 use peer::testing::records::{forged, words_of};
 use peer::testing::skips::too_many;
 use peer::{Answer, Call, Cycle, Name, Phase, Shape};
@@ -12,18 +13,19 @@ use crate::list::List;
 
 /// The places of the buffers of the state among all buffers.
 const CELLS: usize = 0;
-const COUNTERS: usize = 1;
-const FLAGS: usize = 2;
-const TOTALS: usize = 3;
+const LINES: usize = 1;
+const COUNTERS: usize = 2;
+const FLAGS: usize = 3;
+const TOTALS: usize = 4;
 
 /// Phases without a name.
 const NAMELESS: [usize; 9] = [3, 4, 255, 256, 257, 258, 1 << 32, (1 << 32) + 1, usize::MAX];
 
 /// Whether a cycle on the shape looks at too many rows to be run often.
 fn is_long(shape: Shape, skip: usize) -> bool {
-    shape.layout().is_ok_and(|layout| {
-        skip < layout.digits() && layout.lookups(skip) * layout.rows() > 100_000
-    })
+    shape
+        .layout()
+        .is_ok_and(|layout| skip < layout.digits() && layout.steps(skip) * layout.rows() > 100_000)
 }
 
 impl List<'_> {
@@ -63,6 +65,34 @@ impl List<'_> {
             *drawn.call.row_mut().expect("a call on a row") = row;
             self.make(drawn);
         }
+    }
+
+    /// A row is programmed, its line is set, and it is looked up.
+    fn set_row(&mut self) {
+        let row = self.random.below(self.shape.rows);
+        for name in [Name::Program, Name::Line] {
+            let mut drawn = self.right(name);
+            *drawn.call.row_mut().expect("a call on a row") = row;
+            self.make(drawn);
+        }
+        self.look_up_row(row);
+    }
+
+    /// Looks a row up by its own rule cells, which are levels: it matches where
+    /// its line is sound.
+    pub fn look_up_row(&mut self, row: usize) {
+        let start = row * self.layout.columns();
+        let levels = self.ours.lent.state.cells[start..][..self.shape.width].to_vec();
+        for name in [Name::Lookup, Name::FirstMatch] {
+            let mut drawn = self.right(name);
+            *drawn.call.levels_mut().expect("a lookup") = levels.clone();
+            self.make(drawn);
+        }
+    }
+
+    /// Somebody else writes the lines.
+    pub fn write_lines(&mut self, lines: Vec<u8>) {
+        self.write(LINES, 0, lines);
     }
 
     /// A step with a forged record; the true one is put back after a refusal.
@@ -117,6 +147,7 @@ impl List<'_> {
             _ => (0, *Lent::lengths(&self.layout).at(buffer)),
         };
         let bytes = match buffer {
+            LINES if !self.random.one_in(4) => any_lines(&mut self.random, length),
             COUNTERS if self.random.one_in(2) => self.random.levels(self.shape.radix, length),
             FLAGS | TOTALS if self.random.one_in(2) => self.random.sparse(length, 8),
             _ => self.random.bytes(length),
@@ -144,6 +175,17 @@ impl List<'_> {
             for length in wrong_lengths(self.layout.blocks()) {
                 let mut drawn = self.right(name);
                 drawn.lengths.state.totals = length;
+                assert_eq!(self.make(drawn), Answer::Refused(6));
+            }
+        }
+    }
+
+    /// The calls that are lent the lines, with a wrong length of these.
+    pub fn wrong_lines(&mut self) {
+        for name in WITH_LINES {
+            for length in wrong_lengths(self.shape.rows) {
+                let mut drawn = self.right(name);
+                drawn.lengths.state.lines = length;
                 assert_eq!(self.make(drawn), Answer::Refused(6));
             }
         }
@@ -181,13 +223,15 @@ impl List<'_> {
         }
     }
 
-    /// The record of any place of the schedule of any z, its end most often.
+    /// The record of any place of the schedule of any z, its end most often, and
+    /// often its opening.
     fn jump(&mut self) {
         let schedule = &self.schedules[self.random.below(self.shape.digits)];
-        let lookups = schedule.lookups();
-        let count = match self.random.below(3) {
-            0 => self.random.below(lookups),
-            _ => lookups - 1 - self.random.below(lookups.min(5)),
+        let steps = schedule.steps();
+        let count = match self.random.below(6) {
+            0 => 0,
+            1 | 2 => self.random.below(steps),
+            _ => steps - 1 - self.random.below(steps.min(5)),
         };
         self.put(words_of(schedule.record(count)));
     }
@@ -240,7 +284,7 @@ impl List<'_> {
     pub fn complete(&self, skip: usize) -> Cycle {
         Cycle {
             phase: Phase::Complete,
-            count: self.layout.lookups(skip),
+            count: self.layout.steps(skip),
             skip,
             ..Cycle::IDLE
         }
@@ -265,9 +309,10 @@ impl List<'_> {
     /// So many pieces, with cycles of so many steps at most.
     pub fn pieces(&mut self, pieces: usize, steps: usize) {
         for _ in 0..pieces {
-            match self.random.below(14) {
+            match self.random.below(15) {
                 0..=4 => (0..9).for_each(|_| self.one_call()),
                 5 | 6 => self.changed_row(),
+                14 => self.set_row(),
                 7 => self.forged_step(),
                 8 => self.foreign_bytes(),
                 9 => {

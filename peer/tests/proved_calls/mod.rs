@@ -21,7 +21,7 @@ pub fn make<S: Bytes, B: Bytes>(
     words: &mut Words,
     call: &mut Call<B>,
 ) -> Option<Answer> {
-    let cells = &mut state.cells;
+    let (cells, lines) = (&mut state.cells, &mut state.lines);
     let number = match call {
         Call::Clear => clear(words, shape, state.lend()),
         Call::Program { row, levels } => program(words, shape, cells, *row, levels),
@@ -29,10 +29,11 @@ pub fn make<S: Bytes, B: Bytes>(
         Call::Step { matches } => step(words, shape, state.lend(), matches),
         Call::Run { skip, matches } => run(words, shape, *skip, state.lend(), matches),
         Call::Drift { row, column, level } => drift(shape, cells, *row, *column, *level),
+        Call::Line { row, byte } => line(shape, lines, *row, *byte),
         Call::Read { row, out } => read(shape, cells, *row, out),
         Call::Encode { codeword } => encode(shape, codeword),
         Call::Lookup { inputs, matches } => {
-            let (number, count) = lookup(shape, cells, inputs, matches);
+            let (number, count) = lookup(shape, cells, lines, inputs, matches);
             return with_value(number, count, |count| Some(Answer::Count(count)));
         }
         Call::Panel => {
@@ -40,7 +41,7 @@ pub fn make<S: Bytes, B: Bytes>(
             return with_value(number, told, |told| panel_told(shape, told));
         }
         Call::FirstMatch { inputs } => {
-            let (number, found) = first_match(shape, cells, inputs);
+            let (number, found) = first_match(shape, cells, lines, inputs);
             return with_value(number, found, |found| {
                 row_or_none(shape, found).map(Answer::Row)
             });
@@ -101,6 +102,8 @@ pub fn clear(words: &mut Words, shape: Shape, state: State<&mut [u8]>) -> u8 {
             shape.into(),
             state.cells.as_mut_ptr(),
             state.cells.len(),
+            state.lines.as_mut_ptr(),
+            state.lines.len(),
             state.counters.as_mut_ptr(),
             state.counters.len(),
             state.flags.as_mut_ptr(),
@@ -158,6 +161,8 @@ macro_rules! stepping {
                     $($skip,)?
                     state.cells.as_ptr(),
                     state.cells.len(),
+                    state.lines.as_ptr(),
+                    state.lines.len(),
                     state.counters.as_mut_ptr(),
                     state.counters.len(),
                     state.flags.as_mut_ptr(),
@@ -178,6 +183,10 @@ stepping!(run, jorivelune_run, skip);
 pub fn drift(shape: Shape, cells: &mut [u8], row: usize, column: usize, level: u8) -> u8 {
     let (address, length) = (cells.as_mut_ptr(), cells.len());
     unsafe { jorivelune_drift(shape.into(), address, length, row, column, level) }
+}
+
+pub fn line(shape: Shape, lines: &mut [u8], row: usize, byte: u8) -> u8 {
+    unsafe { jorivelune_line(shape.into(), lines.as_mut_ptr(), lines.len(), row, byte) }
 }
 
 pub fn read(shape: Shape, cells: &[u8], row: usize, out: &mut [u8]) -> u8 {
@@ -201,13 +210,21 @@ pub fn encode(shape: Shape, codeword: &mut [u8]) -> u8 {
 // gives, so that one which is not written is seen.
 
 /// The number, and the count of matches.
-pub fn lookup(shape: Shape, cells: &[u8], inputs: &[u8], matches: &mut [u8]) -> (u8, usize) {
+pub fn lookup(
+    shape: Shape,
+    cells: &[u8],
+    lines: &[u8],
+    inputs: &[u8],
+    matches: &mut [u8],
+) -> (u8, usize) {
     let mut count = usize::MAX;
     let number = unsafe {
         jorivelune_lookup(
             shape.into(),
             cells.as_ptr(),
             cells.len(),
+            lines.as_ptr(),
+            lines.len(),
             inputs.as_ptr(),
             inputs.len(),
             matches.as_mut_ptr(),
@@ -238,13 +255,15 @@ pub fn panel(shape: Shape, flags: &[u8], totals: &[u8]) -> (u8, [usize; 3]) {
 }
 
 /// The number, and the row: m where none matches.
-pub fn first_match(shape: Shape, cells: &[u8], inputs: &[u8]) -> (u8, usize) {
+pub fn first_match(shape: Shape, cells: &[u8], lines: &[u8], inputs: &[u8]) -> (u8, usize) {
     let mut found = usize::MAX;
     let number = unsafe {
         jorivelune_first_match(
             shape.into(),
             cells.as_ptr(),
             cells.len(),
+            lines.as_ptr(),
+            lines.len(),
             inputs.as_ptr(),
             inputs.len(),
             &mut found,

@@ -80,11 +80,11 @@ use Rattle.cycle_in_place.proofs.step_in_place.Proof.Rules.{copied, par
 
 -- the lifetimes: that of the record's reference, and those of step
 abbrev lifetimes : ℕ
-lifetimes = 6
+lifetimes = 7
 
 -- The number of the last local. A parameter by value or a `&` adds one local, a `&mut` slice three: itself, and two by which it is lent on.
 abbrev last : ℕ
-last = 18
+last = 19
 
 -- Each local has two entries in the context, its cell and what frees it, the last local's first. Where k entries stand before them all, the local i stands here.
 abbrev at : ℕ → ℕ → ℕ
@@ -109,7 +109,7 @@ slice-val x = sliceVal (x .ptr) (length (x .now))
 abbrev bytes : {n : ℕ} → Slot n
 bytes = plain (λ _. u8)
 
--- what is had of each parameter at exit: the record's borrow; nothing of the shape and the cells; of each slice that is given to step, its last list
+-- what is had of each parameter at exit: the record's borrow; nothing of the shape, the cells and the lines; of each slice that is given to step, its last list
 abbrev stayed : Stays (in-place.ended .signature .params) (in-place.ended .kept)
 stayed = (
   stay-ref (0 ∷ []) tt (plain (λ _. R.the-row)),
@@ -117,7 +117,10 @@ stayed = (
     stay-dropped (plain (λ _. S.the-row)) yes,
     (
       stay-dropped (shrSliceOf (1 ∷ []) tt bytes) yes,
-      (gave-slice (2 ∷ []) tt bytes, (gave-slice (3 ∷ []) tt bytes, (gave-slice (4 ∷ []) tt bytes, (gave-slice (5 ∷ []) tt bytes, tt)))),
+      (
+        stay-dropped (shrSliceOf (2 ∷ []) tt bytes) yes,
+        (gave-slice (3 ∷ []) tt bytes, (gave-slice (4 ∷ []) tt bytes, (gave-slice (5 ∷ []) tt bytes, (gave-slice (6 ∷ []) tt bytes, tt)))),
+      ),
     ),
   ),
 )
@@ -127,27 +130,28 @@ abbrev Step : {M : Type 1} (𝓤 : URA M) (H : Heap 𝓤) (A : Atoms 𝓤) (mem 
 Step 𝓤 H A mem run = tripleOf 𝓤 H A step.signature (step.spec 𝓤 H A mem run)
 
 -- The record's reference is the pointer (b, o), of the lifetime κ, to the record h. κs and qs are the lifetimes of the other references with their shares, as step has them.
-module _ {M : Type 1} (𝓤 : URA M) (H : Heap 𝓤) (A : Atoms 𝓤) (W : Given 𝓤 H A) (at-mem : Memory → SProp 𝓤) (run : Routine → Fun 𝓤) (κ : Lft) (κs : Lfts 5) (q : Share) (qs : Shares 5)
-    (b o : ℕ) (γ : GName) (h : Cycle) (shape : Shape) (cells counters flags totals matches : RefT (List ℕ)) where
+module _ {M : Type 1} (𝓤 : URA M) (H : Heap 𝓤) (A : Atoms 𝓤) (W : Given 𝓤 H A) (at-mem : Memory → SProp 𝓤) (run : Routine → Fun 𝓤) (κ : Lft) (κs : Lfts 6) (q : Share) (qs : Shares 6)
+    (b o : ℕ) (γ : GName) (h : Cycle) (shape : Shape) (cells lines counters flags totals matches : RefT (List ℕ)) where
   -- the parameters after the record: types, values and machine values
   abbrev Others : List RattleType
-  Others = S.the-row ∷ ShrSlice (named 1) (κs .0) u8 ∷ MutSlice (named 2) (κs .1 .0) u8 ∷ MutSlice (named 3) (κs .1 .1 .0) u8 ∷ MutSlice (named 4) (κs .1 .1 .1 .0) u8
-      ∷ MutSlice (named 5) (κs .1 .1 .1 .1 .0) u8 ∷ []
+  Others = S.the-row ∷ ShrSlice (named 1) (κs .0) u8 ∷ ShrSlice (named 2) (κs .1 .0) u8 ∷ MutSlice (named 3) (κs .1 .1 .0) u8 ∷ MutSlice (named 4) (κs .1 .1 .1 .0) u8
+      ∷ MutSlice (named 5) (κs .1 .1 .1 .1 .0) u8 ∷ MutSlice (named 6) (κs .1 .1 .1 .1 .1 .0) u8 ∷ []
 
   abbrev Args : Type 0
-  Args = Shape × (RefT (List ℕ) × (RefT (List ℕ) × (RefT (List ℕ) × (RefT (List ℕ) × (RefT (List ℕ) × Unit {0})))))
+  Args = Shape × (RefT (List ℕ) × (RefT (List ℕ) × (RefT (List ℕ) × (RefT (List ℕ) × (RefT (List ℕ) × (RefT (List ℕ) × Unit {0}))))))
 
   abbrev others : Args
-  others = (shape, (cells, (counters, (flags, (totals, (matches, tt))))))
+  others = (shape, (cells, (lines, (counters, (flags, (totals, (matches, tt)))))))
 
   abbrev Vals : Type 0
-  Vals = List Val × (List Val × (List Val × (List Val × (List Val × (List Val × Unit {0})))))
+  Vals = List Val × (List Val × (List Val × (List Val × (List Val × (List Val × (List Val × Unit {0}))))))
 
   abbrev vals : Vals
-  vals = (shape-val shape ∷ [], (slice-val cells ∷ [], (slice-val counters ∷ [], (slice-val flags ∷ [], (slice-val totals ∷ [], (slice-val matches ∷ [], tt))))))
+  vals =
+      (shape-val shape ∷ [], (slice-val cells ∷ [], (slice-val lines ∷ [], (slice-val counters ∷ [], (slice-val flags ∷ [], (slice-val totals ∷ [], (slice-val matches ∷ [], tt)))))))
 
   abbrev passed : List Val
-  passed = vptr b o ∷ shape-val shape ∷ slice-val cells ∷ slice-val counters ∷ slice-val flags ∷ slice-val totals ∷ slice-val matches ∷ []
+  passed = vptr b o ∷ shape-val shape ∷ slice-val cells ∷ slice-val lines ∷ slice-val counters ∷ slice-val flags ∷ slice-val totals ∷ slice-val matches ∷ []
 
   -- all of this function's own, and what its walk ends in
   abbrev mine : RefT Cycle × Args
@@ -209,16 +213,16 @@ module _ {M : Type 1} (𝓤 : URA M) (H : Heap 𝓤) (A : Atoms 𝓤) (W : Given
 
   module _ (zs : Last) where
     abbrev counters′ : List ℕ
-    counters′ = zs .1 .1 .1 .0
+    counters′ = zs .1 .1 .1 .1 .0
 
     abbrev flags′ : List ℕ
-    flags′ = zs .1 .1 .1 .1 .0
+    flags′ = zs .1 .1 .1 .1 .1 .0
 
     abbrev totals′ : List ℕ
-    totals′ = zs .1 .1 .1 .1 .1 .0
+    totals′ = zs .1 .1 .1 .1 .1 .1 .0
 
     abbrev matches′ : List ℕ
-    matches′ = zs .1 .1 .1 .1 .1 .1 .0
+    matches′ = zs .1 .1 .1 .1 .1 .1 .1 .0
 
     -- of each slice that was given away, its last list, which is as long as the list passed
     abbrev Lengths : Type 0
@@ -228,20 +232,21 @@ module _ {M : Type 1} (𝓤 : URA M) (H : Heap 𝓤) (A : Atoms 𝓤) (W : Given
 
     abbrev lists : Fml
     lists =
-        fsep ftrue (fsep ftrue (fsep (finally u8 (counters .name) counters′) (fsep (finally u8 (flags .name) flags′)
-        (fsep (finally u8 (totals .name) totals′) (fsep (finally u8 (matches .name) matches′) ftrue)))))
+        fsep ftrue (fsep ftrue (fsep ftrue (fsep (finally u8 (counters .name) counters′) (fsep (finally u8 (flags .name) flags′)
+        (fsep (finally u8 (totals .name) totals′) (fsep (finally u8 (matches .name) matches′) ftrue))))))
 
     last-lists : ent 𝓤 (sem 𝓤 H A (lasts step.ended κs its zs)) (guard 𝓤 Lengths (sem 𝓤 H A lists))
     last-lists =
-        qed W (‵ (lasts step.ended κs its zs) ∷ []) ∵ fsplit ! $ drop ! $ fsplit ! $ drop ! $ fsplit ! $ drop ! $ fsplit ! $ fsplit ! $ move ! (1 ∷ []) $ feqL ! (λ n₄.
-        move ! (1 ∷ []) $ fsplit ! $ fsplit ! $ move ! (1 ∷ []) $ feqL ! (λ n₅. move ! (1 ∷ []) $ fsplit ! $ fsplit ! $ move ! (1 ∷ []) $ feqL ! (λ n₆.
-        move ! (1 ∷ []) $ fsplit ! $ fsplit ! $ move ! (1 ∷ []) $ feqL ! (λ n₇.
-        check ! (n₄, (n₅, (n₆, n₇))) $ fjoin ! $ move ! (1 ∷ 0 ∷ []) $ fjoin ! $ move ! (1 ∷ 0 ∷ []) $ fjoin ! $ move ! (1 ∷ 0 ∷ []) $ fjoin ! $
-        nothing ! $ fjoin ! $ nothing ! $ fjoin ! $ done !))))
+        qed W (‵ (lasts step.ended κs its zs) ∷ []) ∵ fsplit ! $ drop ! $ fsplit ! $ drop ! $ fsplit ! $ drop ! $ fsplit ! $ drop ! $
+        fsplit ! $ fsplit ! $ move ! (1 ∷ []) $ feqL ! (λ n₅.
+        move ! (1 ∷ []) $ fsplit ! $ fsplit ! $ move ! (1 ∷ []) $ feqL ! (λ n₆. move ! (1 ∷ []) $ fsplit ! $ fsplit ! $ move ! (1 ∷ []) $ feqL ! (λ n₇.
+        move ! (1 ∷ []) $ fsplit ! $ fsplit ! $ move ! (1 ∷ []) $ feqL ! (λ n₈.
+        check ! (n₅, (n₆, (n₇, n₈))) $ fjoin ! $ move ! (1 ∷ 0 ∷ []) $ fjoin ! $ move ! (1 ∷ 0 ∷ []) $ fjoin ! $ move ! (1 ∷ 0 ∷ []) $ fjoin ! $
+        nothing ! $ fjoin ! $ nothing ! $ fjoin ! $ nothing ! $ fjoin ! $ done !))))
 
   -- the values at exit: the record that step returned, and the last lists that it left
   abbrev ended : Changed → Last → Lasts in-place.ended (κ, κs) mine
-  ended r zs = (r .cycle, (tt, (tt, zs .1 .1 .1)))
+  ended r zs = (r .cycle, (tt, (tt, (tt, zs .1 .1 .1 .1))))
 
   abbrev Claims : Changed → Last → SProp 𝓤
   Claims r zs = in-place.clauses 𝓤 H A at-mem run (κ, κs) mine .ensures tt (r .outcome) (atExit in-place.ended (κ, κs) mine (ended r zs))
@@ -257,7 +262,7 @@ module _ {M : Type 1} (𝓤 : URA M) (H : Heap 𝓤) (A : Atoms 𝓤) (W : Given
   exits : (r : Changed) (zs : Last) → Lengths zs → Is O.the-row (r .outcome) (outcome-val (r .outcome) ∷ []) → ent 𝓤 (⋆ 𝓤 H A (in-hand r zs)) (Post (outcome-val (r .outcome)))
   exits r zs n is =
       qed W (in-hand r zs) ∵
-      suffices ! _ (ends-at 𝓤 H A in-place.ended stayed (in-place.clauses 𝓤 H A at-mem run) W (((κ, κs), (q, qs), tt, mine, my-vals), tt) (outcome-val (r .outcome)) (r .outcome) (ended r zs) (tt, (tt, (tt, (n .0, (n .1 .0, (n .1 .1 .0, (n .1 .1 .1, tt)))))))) $
+      suffices ! _ (ends-at 𝓤 H A in-place.ended stayed (in-place.clauses 𝓤 H A at-mem run) W (((κ, κs), (q, qs), tt, mine, my-vals), tt) (outcome-val (r .outcome)) (r .outcome) (ended r zs) (tt, (tt, (tt, (tt, (n .0, (n .1 .0, (n .1 .1 .0, (n .1 .1 .1, tt))))))))) $
       -- the record's reference and the last lists are what is had of the parameters
       feqI ! (List Val) (vptr b o ∷ []) (vptr b o ∷ []) refl $ fjoin3 ! $ move ! (0 ∷ 3 ∷ []) $ fjoin ! $
       -- beside the result and the tokens
@@ -267,22 +272,23 @@ module _ {M : Type 1} (𝓤 : URA M) (H : Heap 𝓤) (A : Atoms 𝓤) (W : Given
   -- ---- 4. the walk, statement by statement. A line in [ ] says what the context is: `locals` stands for all the locals' entries, two for each
 
   module _ (C : Calls 𝓤 H) (Λ : Loops 𝓤 H) (fm : FmC 𝓤 H (W .laws) C) (known : Triple 𝓤 (C #step) (Step 𝓤 H A at-mem run)) where
-    walk : Is S.the-row shape (shape-val shape ∷ []) → Room u8 (length (cells .now)) → Room u8 (length (counters .now)) → Room u8 (length (flags .now))
-        → Room u8 (length (totals .now)) → Room u8 (length (matches .now))
+    walk : Is S.the-row shape (shape-val shape ∷ []) → Room u8 (length (cells .now)) → Room u8 (length (lines .now)) → Room u8 (length (counters .now))
+        → Room u8 (length (flags .now)) → Room u8 (length (totals .now)) → Room u8 (length (matches .now))
         → ent 𝓤 (onEntry 𝓤 H A in-place.signature (κ, κs) (q, qs) mine my-vals) (WpFn 𝓤 H C Λ code.function passed Post)
-    walk is-shape room₃ room₄ room₅ room₆ room₇ =
+    walk is-shape room₃ room₄ room₅ room₆ room₇ room₈ =
         qed W ((‵ (flft κ q) ⊛ raw Alive) ∷ ‵ (owns (MutRef (named 0) κ R.the-row ∷ Others) mine my-vals) ∷ []) ∵ enter ! C Λ code.function passed _ $
         -- the locals, and the arguments in the first of them
         alloc1 ! (λ _. alloc1 ! (λ _. alloc1 ! (λ _. alloc1 ! (λ _. alloc1 ! (λ _. alloc1 ! (λ _. alloc1 ! (λ _. alloc1 ! (λ _.
         alloc1 ! (λ _. alloc1 ! (λ _. alloc1 ! (λ _. alloc1 ! (λ _. alloc1 ! (λ _. alloc1 ! (λ _. alloc1 ! (λ _. alloc1 ! (λ _.
-        alloc1 ! (λ _. alloc1 ! (λ _. alloc1 ! (λ _. alloc0 ! $ params1 ! $
+        alloc1 ! (λ _. alloc1 ! (λ _. alloc1 ! (λ _. alloc1 ! (λ _. alloc0 ! $ params1 ! $
         pass1 ! (init ! (at 0 1) refl (tt, tt)) $
         pass1 ! (init ! (at 0 2) refl (LL.lawful S.the-type S′.the-laws 𝓤 H A W .typed shape _ is-shape .0)) $
         pass1 ! (init ! (at 0 3) refl (tt, (tt, (record { fits = room₃ .0 }, tt)))) $
         pass1 ! (init ! (at 0 4) refl (tt, (tt, (record { fits = room₄ .0 }, tt)))) $
         pass1 ! (init ! (at 0 5) refl (tt, (tt, (record { fits = room₅ .0 }, tt)))) $
         pass1 ! (init ! (at 0 6) refl (tt, (tt, (record { fits = room₆ .0 }, tt)))) $
-        pass1 ! (init ! (at 0 7) refl (tt, (tt, (record { fits = room₇ .0 }, tt)))) $ pass0 ! $
+        pass1 ! (init ! (at 0 7) refl (tt, (tt, (record { fits = room₇ .0 }, tt)))) $
+        pass1 ! (init ! (at 0 8) refl (tt, (tt, (record { fits = room₈ .0 }, tt)))) $ pass0 ! $
         -- [locals; the tokens; what the parameters own]
         -- the borrow of the record is opened
         move ! (at 3 0 ∷ []) $ fsplit ! $ fsplit3 ! $ drop ! $ move ! (at 5 0 ∷ []) $ split ! $ move ! (2 ∷ 3 ∷ 0 ∷ []) $
@@ -293,19 +299,19 @@ module _ {M : Type 1} (𝓤 : URA M) (H : Heap 𝓤) (A : Atoms 𝓤) (W : Given
         sets ! (at 7) (of-opd ! (load ! (pointed ! (at 7) refl) (look-raw ! 0 refl))) refl (LL.lawful R.the-type R′.the-laws 𝓤 H A W .typed h _ is-h .0) $
         -- counters, flags, totals and matches are lent on: the address of the first byte, and the address with the count
         sets ! (at 7) (element ! (at 7) refl (sub ! 0 refl (whole !))) refl (tt, tt) $
-        sets ! (at 7) (agg ! (and-then ! (copied ! (at 7) refl) (and-then ! (part ! (at 7) refl (sub ! 1 refl (whole !))) (no-more !)))) refl (tt, (tt, (record { fits = room₄ .0 }, tt))) $
-        sets ! (at 7) (element ! (at 7) refl (sub ! 0 refl (whole !))) refl (tt, tt) $
         sets ! (at 7) (agg ! (and-then ! (copied ! (at 7) refl) (and-then ! (part ! (at 7) refl (sub ! 1 refl (whole !))) (no-more !)))) refl (tt, (tt, (record { fits = room₅ .0 }, tt))) $
         sets ! (at 7) (element ! (at 7) refl (sub ! 0 refl (whole !))) refl (tt, tt) $
         sets ! (at 7) (agg ! (and-then ! (copied ! (at 7) refl) (and-then ! (part ! (at 7) refl (sub ! 1 refl (whole !))) (no-more !)))) refl (tt, (tt, (record { fits = room₆ .0 }, tt))) $
         sets ! (at 7) (element ! (at 7) refl (sub ! 0 refl (whole !))) refl (tt, tt) $
         sets ! (at 7) (agg ! (and-then ! (copied ! (at 7) refl) (and-then ! (part ! (at 7) refl (sub ! 1 refl (whole !))) (no-more !)))) refl (tt, (tt, (record { fits = room₇ .0 }, tt))) $
-        -- let stepped = before.step(shape, cells, counters, flags, totals, matches);
+        sets ! (at 7) (element ! (at 7) refl (sub ! 0 refl (whole !))) refl (tt, tt) $
+        sets ! (at 7) (agg ! (and-then ! (copied ! (at 7) refl) (and-then ! (part ! (at 7) refl (sub ! 1 refl (whole !))) (no-more !)))) refl (tt, (tt, (record { fits = room₈ .0 }, tt))) $
+        -- let stepped = before.step(shape, cells, lines, counters, flags, totals, matches);
         move ! (1 ∷ 6 ∷ []) $ fjoin ! $ move ! (5 ∷ 0 ∷ []) $ use2 W (raw (Step 𝓤 H A at-mem run .pre to-step)) goes $
         -- [what step asks; the record's cell; the open borrow, in three; locals]
         calls-at ! fm (Step 𝓤 H A at-mem run) known to-step
         (and-then ! (copied ! (at 5) refl) (and-then ! (copied ! (at 5) refl) (and-then ! (copied ! (at 5) refl) (and-then ! (copied ! (at 5) refl) (and-then ! (copied ! (at 5) refl)
-        (and-then ! (copied ! (at 5) refl) (and-then ! (copied ! (at 5) refl) (no-more !)))))))) (λ w.
+        (and-then ! (copied ! (at 5) refl) (and-then ! (copied ! (at 5) refl) (and-then ! (copied ! (at 5) refl) (no-more !))))))))) (λ w.
         -- its result r and the last lists zs, at its machine value w
         use1 W (later (some (λ (r : Changed). (raw Alive ⊛ ‵ (D.the-row .own r (w ∷ []))) ⊛ raw (ensured 𝓤 H A step.ended (step.clauses 𝓤 H A at-mem run) κs its tt r)))) (id⊢ 𝓤 _) $ await ! tt $ pick ! (λ r.
         split ! $ move ! (1 ∷ []) $ use1 W (some (λ (zs : Last). ‵ (lasts step.ended κs its zs) ⊛ raw (Says r zs))) (id⊢ 𝓤 _) $ pick ! (λ zs. split ! $
@@ -326,8 +332,8 @@ module _ {M : Type 1} (𝓤 : URA M) (H : Heap 𝓤) (A : Atoms 𝓤) (W : Given
         gone ! (at 6 0) refl refl $ gone ! (at 6 1) refl refl $ gone ! (at 6 2) refl refl $ gone ! (at 6 3) refl refl $ gone ! (at 6 4) refl refl $ gone ! (at 6 5) refl refl $
         gone ! (at 6 6) refl refl $ gone ! (at 6 7) refl refl $ gone ! (at 6 8) refl refl $ gone ! (at 6 9) refl refl $ gone ! (at 6 10) refl refl $ gone ! (at 6 11) refl refl $
         gone ! (at 6 12) refl refl $ gone ! (at 6 13) refl refl $ gone ! (at 6 14) refl refl $ gone ! (at 6 15) refl refl $ gone ! (at 6 16) refl refl $ gone ! (at 6 17) refl refl $
-        gone ! (at 6 18) refl refl $ free0 ! $
-        by ! (exits r zs n (is-outcome r w is))))))))))))))))))))))))))))
+        gone ! (at 6 18) refl refl $ gone ! (at 6 19) refl refl $ free0 ! $
+        by ! (exits r zs n (is-outcome r w is)))))))))))))))))))))))))))))
 
 -- ---- 5. from the walk to the statement
 
@@ -336,7 +342,7 @@ module _ {M : Type 1} (𝓤 : URA M) (H : Heap 𝓤) (A : Atoms 𝓤) (W : Given
   walks : (C : Calls 𝓤 H) (Λ : Loops 𝓤 H) → FmC 𝓤 H (W .laws) C → Triple 𝓤 (C #step) (Step 𝓤 H A mem run) → Walks 𝓤 H A in-place.ended stayed (WpFn 𝓤 H C Λ code.function) (in-place.clauses 𝓤 H A mem run)
   walks C Λ fm known =
       walked 𝓤 H A in-place.ended stayed (in-place.clauses 𝓤 H A mem run) (WpFn 𝓤 H C Λ code.function)
-      (λ κs. (ptr-vals, (LL.vals S.the-type S′.the-laws, (slice-vals, (slice-vals, (slice-vals, (slice-vals, (slice-vals, tt))))))))
+      (λ κs. (ptr-vals, (LL.vals S.the-type S′.the-laws, (slice-vals, (slice-vals, (slice-vals, (slice-vals, (slice-vals, (slice-vals, tt)))))))))
       (λ κs. (
         mut-tells (named 0) (κs .0) R.the-row,
         (
@@ -344,17 +350,23 @@ module _ {M : Type 1} (𝓤 : URA M) (H : Heap 𝓤) (A : Atoms 𝓤) (W : Given
           (
             shr-slice-tells (named 1) (κs .1 .0) u8,
             (
-              mut-slice-tells (named 2) (κs .1 .1 .0) u8,
-              (mut-slice-tells (named 3) (κs .1 .1 .1 .0) u8, (mut-slice-tells (named 4) (κs .1 .1 .1 .1 .0) u8, (mut-slice-tells (named 5) (κs .1 .1 .1 .1 .1 .0) u8, tt))),
+              shr-slice-tells (named 2) (κs .1 .1 .0) u8,
+              (
+                mut-slice-tells (named 3) (κs .1 .1 .1 .0) u8,
+                (
+                  mut-slice-tells (named 4) (κs .1 .1 .1 .1 .0) u8,
+                  (mut-slice-tells (named 5) (κs .1 .1 .1 .1 .1 .0) u8, (mut-slice-tells (named 6) (κs .1 .1 .1 .1 .1 .1 .0) u8, tt)),
+                ),
+              ),
             ),
           ),
         ),
       ))
       (λ κs qs bounds a g are. via 𝓤 _ (fst∗ 𝓤 _ (emp 𝓤))
       (walk 𝓤 H A W mem run (κs .0) (κs .1) (qs .0) (qs .1) (a .0 .ptr .0) (a .0 .ptr .1) (a .0 .name) (a .0 .now)
-      (a .1 .0) (a .1 .1 .0) (a .1 .1 .1 .0) (a .1 .1 .1 .1 .0) (a .1 .1 .1 .1 .1 .0) (a .1 .1 .1 .1 .1 .1 .0) C Λ fm known
-      (are .1 .0) (are .1 .1 .0 .0 .1) (are .1 .1 .1 .0 .0 .1) (are .1 .1 .1 .1 .0 .0 .1) (are .1 .1 .1 .1 .1 .0 .0 .1)
-      (are .1 .1 .1 .1 .1 .1 .0 .0 .1)))
+      (a .1 .0) (a .1 .1 .0) (a .1 .1 .1 .0) (a .1 .1 .1 .1 .0) (a .1 .1 .1 .1 .1 .0) (a .1 .1 .1 .1 .1 .1 .0)
+      (a .1 .1 .1 .1 .1 .1 .1 .0) C Λ fm known (are .1 .0) (are .1 .1 .0 .0 .1) (are .1 .1 .1 .0 .0 .1) (are .1 .1 .1 .1 .0 .0 .1) (are .1 .1 .1 .1 .1 .0 .0 .1)
+      (are .1 .1 .1 .1 .1 .1 .0 .0 .1) (are .1 .1 .1 .1 .1 .1 .1 .0 .0 .1)))
 
   -- what is had of each parameter at exit gives what the contract says of it
   all-go : AllGo 𝓤 H A W lifetimes (in-place.signature .params) (in-place.ended .kept) stayed
@@ -365,8 +377,11 @@ module _ {M : Type 1} (𝓤 : URA M) (H : Heap 𝓤) (A : Atoms 𝓤) (W : Given
       (
         goes-dropped 𝓤 H A W lifetimes (shrSliceOf (1 ∷ []) tt bytes) yes (λ κs x f. refl),
         (
-          goes-gave-slice 𝓤 H A W lifetimes 2 tt bytes,
-          (goes-gave-slice 𝓤 H A W lifetimes 3 tt bytes, (goes-gave-slice 𝓤 H A W lifetimes 4 tt bytes, (goes-gave-slice 𝓤 H A W lifetimes 5 tt bytes, tt))),
+          goes-dropped 𝓤 H A W lifetimes (shrSliceOf (2 ∷ []) tt bytes) yes (λ κs x f. refl),
+          (
+            goes-gave-slice 𝓤 H A W lifetimes 3 tt bytes,
+            (goes-gave-slice 𝓤 H A W lifetimes 4 tt bytes, (goes-gave-slice 𝓤 H A W lifetimes 5 tt bytes, (goes-gave-slice 𝓤 H A W lifetimes 6 tt bytes, tt))),
+          ),
         ),
       ),
     ),

@@ -6,15 +6,16 @@ use lib.Dec.{lit<}
 use lib.ListN.{length, replicate}
 use borrow.Author.Needs.{needs}
 use borrow.Author.Tests.{eqb-true}
-use Rattle.parity.specs.Matrix.{lookups}
+use Rattle.parity.specs.Matrix.{cycleSteps}
 use Rattle.parity.specs.Questions.{Question, firstNo, shapeQuestions, Taken}
 use Rattle.parity.proofs.Taken.{first-yes}
 use Rattle.shape.specs.Answers.{accepted, giving}
 use Rattle.shape.specs.Shapes.{checkedSays, sizesIf}
 use Rattle.shape.proofs.Refusals.{told, fails, passes, answer-tells, answer-then}
 use Rattle.shape.proofs.Calling.{call-done}
-use Rattle.array_memory.specs.Memory.{Memory, withCells, withAll, noMemory, Sized}
+use Rattle.array_memory.specs.Memory.{Memory, withArray, withAll, noMemory, Sized}
 use Rattle.array_memory.proofs.Asked.{skip-taken, MemoryTaken, memory-taken}
+use Rattle.cycle_lookup.specs.Lookup.{entryMatches}
 use Rattle.cycle.specs.Record.{cycleAt}
 use Rattle.cycle.specs.Calls.{State, stateOf, startArguments, stepArguments, lentQuestions, started}
 use Rattle.cycle.specs.Run.{start, step, after, runFrom}
@@ -28,14 +29,14 @@ use Rattle.cycle_run.proofs.run_cycle.Tie as tie
 
 -- the memory that is lent, whatever else is in it
 abbrev lent : tie.Start → Memory → Memory
-lent c mem = withAll (c .args .cells .now) (c .args .counters .now) (c .args .flags .now) (c .args .totals .now) mem
+lent c mem = withAll (c .args .cells .now) (c .args .lines .now) (c .args .counters .now) (c .args .flags .now) (c .args .totals .now) mem
 
 abbrev questions : tie.Start → List Question
 questions c = cycleQuestions (c .args .shape) (lent c noMemory) (c .args .skip) (c .args .matches .now)
 
 -- the places of the call, of its start and of its steps, each from one that follows
 abbrev begun : tie.After-check-matches → tie.Start
-begun c = c .before .before .before .before .before .before .before
+begun c = c .before .before .before .before .before .before .before .before
 
 abbrev passed : tie.After-start → tie.After-enum-told
 passed c = c .before .before .before .before
@@ -90,13 +91,13 @@ module _ (c : tie.After-start) where
   abbrev first : Memory → State
   first mem =
       let last = c .start .last .1 .1 .1 in
-      stateOf (withAll (entered (passed c) .args .cells .now) (last .0) (last .1 .0) (last .1 .1 .0) mem) (c .start .result .cycle)
+      stateOf (withAll (entered (passed c) .args .cells .now) (entered (passed c) .args .lines .now) (last .0) (last .1 .0) (last .1 .1 .0) mem) (c .start .result .cycle)
 
   abbrev given : Memory → State
   given mem = stateOf (lent (entered (passed c)) mem) (entered (passed c) .args .cycle)
 
   left : (mem : Memory) → after (entered (passed c) .args .shape) (given mem) (start (entered (passed c) .args .skip)) ≡ first mem
-  left mem = ap (λ r. r .state) (c .start .ensures (withCells (entered (passed c) .args .cells .now) mem))
+  left mem = ap (λ r. r .state) (c .start .ensures (withArray (entered (passed c) .args .cells .now) (entered (passed c) .args .lines .now) mem))
 
   made : started (entered (passed c) .args .shape) (given noMemory) (entered (passed c) .args .skip) ≡ first noMemory
   made = sym (start-done _ (given noMemory) (sized (passed c)) (taken (passed c)) _ (coarse (passed c) .0)) ∙ left noMemory
@@ -114,7 +115,7 @@ check-skip-requires c κs = search needs
 
 check-matches-requires : tie.Need-check-matches-requires
 check-matches-requires c κs =
-    let args = c .before .before .before .before .before .before .args in
+    let args = c .before .before .before .before .before .before .before .args in
     answer-tells (args .shape) (c .check-skip .result) (startArguments (args .shape) (args .skip)) (c .check-skip .ensures)
 
 enum-known-number : tie.Need-enum-known-number
@@ -152,7 +153,7 @@ returns c =
     (fails (questions start) (start .args .shape) (number .0 .0) (told (answered asked) (number .1))) (c .refused .ensures)
 
 same-length : tie.Need-same-length
-same-length c = search needs
+same-length c = ran c .run-open .kept .1 .1 .1 .1 .0 ∙ opened (ran c .before) .start .kept .1 .1 .1 .0
 
 same-length-2 : tie.Need-same-length-2
 same-length-2 c = search needs
@@ -164,18 +165,18 @@ same-length-4 : tie.Need-same-length-4
 same-length-4 c = search needs
 
 returns-2 : tie.Need-returns-2
-unfolding cycleCall lastMatches
+unfolding cycleCall lastMatches entryMatches
 returns-2 c =
     let begin = opened (ran c .before) in
     let entry = entered (passed begin) in
     let s = entry .args .shape in
     let matches = entry .args .matches .now in
-    let last = ran c .run-open .last .1 .1 .1 in
+    let last = ran c .run-open .last .1 .1 .1 .1 in
     λ mem. call-done (questions entry) matches (given begin mem) _ (none (passed begin))
-    ∙ ap₂ (λ z st. giving (accepted 0) (lastMatches z s (lent entry mem)) (runFrom s st (replicate (lookups z s) (step matches)))) (sym (kept begin))
+    ∙ ap₂ (λ z st. giving (accepted 0) (lastMatches z s (lent entry mem)) (runFrom s st (replicate (cycleSteps z s) (step matches)))) (sym (kept begin))
     (left begin mem)
     ∙ ran c .run-open .ensures mem
-    ∙ ap (λ r. changing r (last .1 .1 .1 .0) (withAll (entry .args .cells .now) (last .0) (last .1 .0) (last .1 .1 .0) mem)) (sym (c .done .ensures))
+    ∙ ap (λ r. changing r (last .1 .1 .1 .0) (withAll (entry .args .cells .now) (entry .args .lines .now) (last .0) (last .1 .0) (last .1 .1 .0) mem)) (sym (c .done .ensures))
 
 pub run-cycle-spec : {M : Type 1} → statement M
 run-cycle-spec =

@@ -1,11 +1,12 @@
--- `cycle_run::run_open` meets its contract: the loop's state is one of the cycle's (WholeCycle.antt). The measure is the lookups to come.
+-- `cycle_run::run_open` meets its contract: the loop's state is one of the cycle's (WholeCycle.antt). The measure is the steps to come.
 -- Assumes nothing.
 use mathlib.Core.Path.{_≡_, sym, _∙_}
 use Prim.Native.Nat.{suc, _-_, _<_}
 use native.Mathlib.Omega.{arith}
 use borrow.Author.Needs.{needs}
-use Rattle.parity.specs.Matrix.{lookups}
+use Rattle.parity.specs.Matrix.{cycleSteps}
 use Rattle.array_memory.specs.Memory.{Memory, withAll, noMemory}
+use Rattle.cycle_lookup.specs.Lookup.{entryMatches}
 use Rattle.cycle.specs.Calls.{stateOf}
 use Rattle.cycle_run.specs.Cycles.{lastMatches}
 use Rattle.cycle_run.proofs.WholeCycle.{Going, going-start, going-step, going-end}
@@ -13,17 +14,17 @@ use Rattle.cycle_run.proofs.run_open.Statement.{statement}
 use Rattle.cycle_run.proofs.run_open.Tie as tie
 
 abbrev Inv-loop : tie.InvT-loop
-Inv-loop shape cells counters₀ flags₀ totals₀ matches₀ now₀ counters flags totals matches now =
+Inv-loop shape cells lines counters₀ flags₀ totals₀ matches₀ now₀ counters flags totals matches now =
     (mem : Memory)
-    → Going (now₀ .skip) shape (stateOf (withAll cells counters₀ flags₀ totals₀ mem) now₀) matches₀ (now .count)
-    (stateOf (withAll cells counters flags totals mem) now) matches
+    → Going (now₀ .skip) shape (stateOf (withAll cells lines counters₀ flags₀ totals₀ mem) now₀) matches₀ (now .count)
+    (stateOf (withAll cells lines counters flags totals mem) now) matches
 
 abbrev μ-loop : tie.MeasureT-loop
-μ-loop shape cells counters₀ flags₀ totals₀ matches₀ now₀ counters flags totals matches now = lookups (now₀ .skip) shape - now .count
+μ-loop shape cells lines counters₀ flags₀ totals₀ matches₀ now₀ counters flags totals matches now = cycleSteps (now₀ .skip) shape - now .count
 
 -- the places of the call, of a turn's begin and of its step, each from one that follows
 abbrev begun : tie.At-loop Inv-loop μ-loop → tie.Start Inv-loop μ-loop
-begun c = c .before .before .before .before .before .before
+begun c = c .before .before .before .before .before .before .before
 
 abbrev looped : tie.After-step Inv-loop μ-loop → tie.At-loop Inv-loop μ-loop
 looped c = c .before .before .before .before .before .before .before
@@ -36,8 +37,8 @@ stepped c = c .before .before .before .before .before .before .before .before .b
 
 loop-holds : tie.Need-loop-holds Inv-loop μ-loop
 loop-holds c =
-    let start = c .before .before .before .before .before in
-    λ mem. going-start _ _ (start .pre .0 .0) _ _ (start .pre .1 .1) (start .pre .1 .0) (start .pre .0 .2)
+    let start = c .before .before .before .before .before .before in
+    λ mem. going-start _ _ (start .pre .0 .0) (start .pre .0 .1) _ _ (start .pre .1 .1) (start .pre .1 .0) (start .pre .0 .2)
 
 is-open-requires : tie.Need-is-open-requires Inv-loop μ-loop
 is-open-requires c κs = search needs
@@ -51,16 +52,16 @@ turn :
     → let loop = looped c in
     let args = begun loop .args in
     let now = c .step .result .cycle in
-    let left = c .step .last .1 .1 .1 in
+    let left = c .step .last .1 .1 .1 .1 in
     (mem : Memory)
     → Going (args .cycle .skip) (args .shape)
-    (stateOf (withAll (args .cells .now) (args .counters .now) (args .flags .now) (args .totals .now) mem) (args .cycle))
-    (args .matches .now) (now .count) (stateOf (withAll (args .cells .now) (left .0) (left .1 .0) (left .1 .1 .0) mem) now) (left .1 .1 .1 .0)
-    × (now .count ≡ suc (loop .loop .now .count)) × (loop .loop .now .count < lookups (args .cycle .skip) (args .shape))
+    (stateOf (withAll (args .cells .now) (args .lines .now) (args .counters .now) (args .flags .now) (args .totals .now) mem) (args .cycle))
+    (args .matches .now) (now .count) (stateOf (withAll (args .cells .now) (args .lines .now) (left .0) (left .1 .0) (left .1 .1 .0) mem) now) (left .1 .1 .1 .0)
+    × (now .count ≡ suc (loop .loop .now .count)) × (loop .loop .now .count < cycleSteps (args .cycle .skip) (args .shape))
 turn c =
     let loop = looped c in
     let start = begun loop in
-    λ mem. going-step (start .args .cycle .skip) (start .args .shape) (start .pre .0 .0) _ _ (start .pre .1 .1) _ _ _ (loop .loop .inv mem)
+    λ mem. going-step (start .args .cycle .skip) (start .args .shape) (start .pre .0 .0) (start .pre .0 .1) _ _ (start .pre .1 .1) _ _ _ (loop .loop .inv mem)
     (sym (opened c .before .is-open .ensures) ∙ opened c .if1 .taken) _ (c .step .ensures mem)
 
 loop-less : tie.Need-loop-less Inv-loop μ-loop
@@ -82,12 +83,12 @@ same-length-4 : tie.Need-same-length-4 Inv-loop μ-loop
 same-length-4 c = let loop = c .before .before in loop .loop .inv noMemory .buffer ∙ sym (begun loop .pre .1 .1)
 
 returns : tie.Need-returns Inv-loop μ-loop
-unfolding lastMatches
+unfolding lastMatches entryMatches
 returns c =
     let loop = c .before .before in
     let start = begun loop in
-    λ mem. going-end (start .args .cycle .skip) (start .args .shape) (start .pre .0 .0) _ _ (start .pre .1 .1) _ _ _ (loop .loop .inv mem)
-    (start .pre .0 .1) (sym (c .before .is-open .ensures) ∙ c .if1 .left)
+    λ mem. going-end (start .args .cycle .skip) (start .args .shape) (start .pre .0 .0) (start .pre .0 .1) _ _ (start .pre .1 .1) _ _ _ (loop .loop .inv mem)
+    (sym (c .before .is-open .ensures) ∙ c .if1 .left)
 
 pub run-open-spec : {M : Type 1} → statement M
 run-open-spec =

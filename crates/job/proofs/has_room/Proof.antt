@@ -11,32 +11,38 @@ returns c = rw (lt-leb 16384 _ (c .if1 .taken))
 
 returns-2 : tie.Need-returns-2
 unfolding enough
-returns-2 c = rw (lt-leb 4096 (c .before .before .args .counters) (c .if2 .taken), and-false)
+returns-2 c = rw (lt-leb 4096 (c .before .before .args .lines) (c .if2 .taken), and-false)
 
 returns-3 : tie.Need-returns-3
 unfolding enough
-returns-3 c = rw (lt-leb 4096 (c .before .before .before .args .flags) (c .if3 .taken), and-false)
+returns-3 c = rw (lt-leb 4096 (c .before .before .before .args .counters) (c .if3 .taken), and-false)
 
 returns-4 : tie.Need-returns-4
 unfolding enough
-returns-4 c = rw (lt-leb 64 (c .before .before .before .before .args .totals) (c .if4 .taken), and-false)
+returns-4 c = rw (lt-leb 4096 (c .before .before .before .before .args .flags) (c .if4 .taken), and-false)
 
 returns-5 : tie.Need-returns-5
 unfolding enough
-returns-5 c = rw (lt-leb 4096 (c .before .before .before .before .before .args .matches) (c .if5 .taken), and-false)
+returns-5 c = rw (lt-leb 64 (c .before .before .before .before .before .args .totals) (c .if5 .taken), and-false)
 
 returns-6 : tie.Need-returns-6
 unfolding enough
-returns-6 c =
+returns-6 c = rw (lt-leb 4096 (c .before .before .before .before .before .before .args .matches) (c .if6 .taken), and-false)
+
+returns-7 : tie.Need-returns-7
+unfolding enough
+returns-7 c =
     let totalled = c .before in
     let flagged = totalled .before in
+    let counted = flagged .before in
     rw (
-      le-leb 16384 _ (flagged .before .before .if1 .left),
-      le-leb 4096 _ (flagged .before .if2 .left),
-      le-leb 4096 _ (flagged .if3 .left),
-      le-leb 64 _ (totalled .if4 .left),
-      le-leb 4096 _ (c .if5 .left),
+      le-leb 16384 _ (counted .before .before .if1 .left),
+      le-leb 4096 _ (counted .before .if2 .left),
+      le-leb 4096 _ (counted .if3 .left),
+      le-leb 4096 _ (flagged .if4 .left),
+      le-leb 64 _ (totalled .if5 .left),
+      le-leb 4096 _ (c .if6 .left),
     )
 
 pub has-room-spec : {M : Type 1} → statement M
-has-room-spec = tie.close (tie.spec returns returns-2 returns-3 returns-4 returns-5 returns-6)
+has-room-spec = tie.close (tie.spec returns returns-2 returns-3 returns-4 returns-5 returns-6 returns-7)

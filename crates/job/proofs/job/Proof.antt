@@ -29,16 +29,16 @@ use Rattle.job.proofs.job.Tie as tie
 -- ---- the places of the call and of its parts, each from one that follows
 
 abbrev begun : tie.After-has-room → tie.Start
-begun c = c .before .before .before .before .before .before .before .before
+begun c = c .before .before .before .before .before .before .before .before .before
 
 abbrev refusing : tie.After-put-refusal-arg → tie.Else1
 refusing c = c .before .before .before .before .before
 
 abbrev counted : tie.After-run-calls → tie.After-block-count
-counted c = c .before .before .before .before .before .before
+counted c = c .before .before .before .before .before .before .before
 
 abbrev ran : tie.After-put-head-arg → tie.After-run-calls
-ran c = c .before .before .before .before .before .before .before .before .before .before .before
+ran c = c .before .before .before .before .before .before .before .before .before .before .before .before .before
 
 abbrev headed : tie.After-put-rows-arg2 → tie.After-put-head
 headed c = c .before .before .before .before
@@ -47,7 +47,9 @@ headed c = c .before .before .before .before
 
 -- the buffers as they are lent
 abbrev lent : tie.Start → Space
-lent c = space (c .args .cells .now) (c .args .counters .now) (c .args .flags .now) (c .args .totals .now) (c .args .matches .now) (c .args .out .now)
+lent c =
+    space (c .args .cells .now) (c .args .lines .now) (c .args .counters .now) (c .args .flags .now) (c .args .totals .now) (c .args .matches .now)
+    (c .args .out .now)
 
 roomed : (c : tie.After-has-room) (short : Bool) → not (c .has-room .result) ≡ short → roomy (lent (begun c)) ≡ not short
 roomed c short e = sym (c .has-room .ensures) ∙ sym (Bool·not-not (c .has-room .result)) ∙ ap not e
@@ -109,6 +111,9 @@ module _ (c : tie.After-struct-known) where
   cells-fit : end ≤ length (given .cells)
   cells-fit = omega (arith, cells-few, space-long .cells)
 
+  lines-fit : s .rows ≤ length (given .lines)
+  lines-fit = omega (arith, rows-few, space-long .lines)
+
   counters-fit : s .rows ≤ length (given .counters)
   counters-fit = omega (arith, rows-few, space-long .counters)
 
@@ -129,22 +134,25 @@ module _ (c : tie.After-run-calls) where
   abbrev parts : Space
   parts =
       let last = c .run-calls .last .1 .1 in
-      space (last .0) (last .1 .0) (last .1 .1 .0) (last .1 .1 .1 .0) (last .1 .1 .1 .1 .0) (given h .out)
+      space (last .0) (last .1 .0) (last .1 .1 .0) (last .1 .1 .1 .0) (last .1 .1 .1 .1 .0) (last .1 .1 .1 .1 .1 .0) (given h .out)
 
   cells-length : length (parts .cells) ≡ end h
   cells-length = c .run-calls .kept .1 .1 .0 ∙ length-take-le _ _ (cells-fit h)
 
+  lines-length : length (parts .lines) ≡ s h .rows
+  lines-length = c .run-calls .kept .1 .1 .1 .0 ∙ length-take-le _ _ (lines-fit h)
+
   counters-length : length (parts .counters) ≡ s h .rows
-  counters-length = c .run-calls .kept .1 .1 .1 .0 ∙ length-take-le _ _ (counters-fit h)
+  counters-length = c .run-calls .kept .1 .1 .1 .1 .0 ∙ length-take-le _ _ (counters-fit h)
 
   flags-length : length (parts .flags) ≡ s h .rows
-  flags-length = c .run-calls .kept .1 .1 .1 .1 .0 ∙ length-take-le _ _ (flags-fit h)
+  flags-length = c .run-calls .kept .1 .1 .1 .1 .1 .0 ∙ length-take-le _ _ (flags-fit h)
 
   totals-length : length (parts .totals) ≡ counted c .block-count .result
-  totals-length = c .run-calls .kept .1 .1 .1 .1 .1 .0 ∙ length-take-le _ _ (totals-fit (counted c))
+  totals-length = c .run-calls .kept .1 .1 .1 .1 .1 .1 .0 ∙ length-take-le _ _ (totals-fit (counted c))
 
   matches-length : length (parts .matches) ≡ s h .rows
-  matches-length = c .run-calls .kept .1 .1 .1 .1 .1 .1 .0 ∙ length-take-le _ _ (matches-fit h)
+  matches-length = c .run-calls .kept .1 .1 .1 .1 .1 .1 .1 .0 ∙ length-take-le _ _ (matches-fit h)
 
   -- the flags as a whole, and their front part
   abbrev flags-now : List ℕ
@@ -158,7 +166,7 @@ module _ (c : tie.After-run-calls) where
 
   -- the state when the calls are over
   abbrev after : State
-  after = stateOf (withAll (parts .cells) (parts .counters) (parts .flags) (parts .totals) noMemory) (c .run-calls .result)
+  after = stateOf (withAll (parts .cells) (parts .lines) (parts .counters) (parts .flags) (parts .totals) noMemory) (c .run-calls .result)
 
 -- the first line is short, whatever is in it
 line-end : (levels columns count : ℕ) {end : ℕ} {out after : List ℕ} → Wrote 0 (headText levels columns count) out end after → end ≤ 86
@@ -219,37 +227,44 @@ slice-aggregate-run-calls : tie.Need-slice-aggregate-run-calls
 slice-aggregate-run-calls c = sym (length-take-le _ _ (cells-fit (c .before .before)))
 
 slice-relend-prefix-run-calls-2 : tie.Need-slice-relend-prefix-run-calls-2
-slice-relend-prefix-run-calls-2 c = counters-fit (c .before .before)
+slice-relend-prefix-run-calls-2 c = lines-fit (c .before .before)
 
 slice-aggregate-run-calls-2 : tie.Need-slice-aggregate-run-calls-2
-slice-aggregate-run-calls-2 c = sym (length-take-le _ _ (counters-fit (c .before .before .before)))
+slice-aggregate-run-calls-2 c = sym (length-take-le _ _ (lines-fit (c .before .before .before)))
 
 slice-relend-prefix-run-calls-3 : tie.Need-slice-relend-prefix-run-calls-3
-slice-relend-prefix-run-calls-3 c = flags-fit (c .before .before .before)
+slice-relend-prefix-run-calls-3 c = counters-fit (c .before .before .before)
 
 slice-aggregate-run-calls-3 : tie.Need-slice-aggregate-run-calls-3
-slice-aggregate-run-calls-3 c = sym (length-take-le _ _ (flags-fit (c .before .before .before .before)))
+slice-aggregate-run-calls-3 c = sym (length-take-le _ _ (counters-fit (c .before .before .before .before)))
 
 slice-relend-prefix-run-calls-4 : tie.Need-slice-relend-prefix-run-calls-4
-slice-relend-prefix-run-calls-4 c = totals-fit (c .before .before .before)
+slice-relend-prefix-run-calls-4 c = flags-fit (c .before .before .before .before)
 
 slice-aggregate-run-calls-4 : tie.Need-slice-aggregate-run-calls-4
-slice-aggregate-run-calls-4 c = sym (length-take-le _ _ (totals-fit (c .before .before .before .before)))
+slice-aggregate-run-calls-4 c = sym (length-take-le _ _ (flags-fit (c .before .before .before .before .before)))
 
 slice-relend-prefix-run-calls-5 : tie.Need-slice-relend-prefix-run-calls-5
-slice-relend-prefix-run-calls-5 c = matches-fit (c .before .before .before .before .before)
+slice-relend-prefix-run-calls-5 c = totals-fit (c .before .before .before .before)
 
 slice-aggregate-run-calls-5 : tie.Need-slice-aggregate-run-calls-5
-slice-aggregate-run-calls-5 c = sym (length-take-le _ _ (matches-fit (c .before .before .before .before .before .before)))
+slice-aggregate-run-calls-5 c = sym (length-take-le _ _ (totals-fit (c .before .before .before .before .before)))
+
+slice-relend-prefix-run-calls-6 : tie.Need-slice-relend-prefix-run-calls-6
+slice-relend-prefix-run-calls-6 c = matches-fit (c .before .before .before .before .before .before)
+
+slice-aggregate-run-calls-6 : tie.Need-slice-aggregate-run-calls-6
+slice-aggregate-run-calls-6 c = sym (length-take-le _ _ (matches-fit (c .before .before .before .before .before .before .before)))
 
 run-calls-requires : tie.Need-run-calls-requires
 run-calls-requires c κs =
-    let blocks = c .before .before .before .before .before in
+    let blocks = c .before .before .before .before .before .before in
     let h = blocks .before in (
       (none (sized h), h .before .shape-of .ensures),
       (
         record {
           cells = length-take-le _ _ (cells-fit h) ∙ end-is h;
+          lines = length-take-le _ _ (lines-fit h);
           rows =
               record {
                 counters = length-take-le _ _ (counters-fit h);
@@ -310,6 +325,9 @@ same-length-6 c = search needs
 same-length-7 : tie.Need-same-length-7
 same-length-7 c = search needs
 
+same-length-8 : tie.Need-same-length-8
+same-length-8 c = search needs
+
 returns-3 : tie.Need-returns-3
 returns-3 c =
     let put = c .before .before in
@@ -320,7 +338,8 @@ returns-3 c =
     (r .run-calls .ensures) (report put)
     ∙ (λ i.
     printed (put .put-rows .result)
-    (space (front-written (left .cells) (sp .cells) _ (cells-length r) i) (front-written (left .counters) (sp .counters) _ (counters-length r) i)
+    (space (front-written (left .cells) (sp .cells) _ (cells-length r) i) (front-written (left .lines) (sp .lines) _ (lines-length r) i)
+    (front-written (left .counters) (sp .counters) _ (counters-length r) i)
     (front-written (left .flags) (sp .flags) _ (flags-length r) i) (front-written (left .totals) (sp .totals) _ (totals-length r) i)
     (front-written (left .matches) (sp .matches) _ (matches-length r) i)
     (put .put-rows .last .0)))
@@ -348,6 +367,8 @@ job-spec =
     slice-aggregate-run-calls-4
     slice-relend-prefix-run-calls-5
     slice-aggregate-run-calls-5
+    slice-relend-prefix-run-calls-6
+    slice-aggregate-run-calls-6
     run-calls-requires
     put-head-requires
     slice-reshare-prefix-put-rows
@@ -361,4 +382,5 @@ job-spec =
     same-length-5
     same-length-6
     same-length-7
+    same-length-8
     returns-3)

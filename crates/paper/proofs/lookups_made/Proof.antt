@@ -34,11 +34,20 @@ slice-aggregate-run-cycle-4 c = search needs
 slice-aggregate-run-cycle-5 : tie.Need-slice-aggregate-run-cycle-5
 slice-aggregate-run-cycle-5 c = search needs
 
+slice-aggregate-run-cycle-6 : tie.Need-slice-aggregate-run-cycle-6
+slice-aggregate-run-cycle-6 c = search needs
+
 run-cycle-requires : tie.Need-run-cycle-requires
 run-cycle-requires c κs = search needs
 
 returns-2 : tie.Need-returns-2
 returns-2 c = search needs
+
+sub-result : tie.Need-sub-result
+sub-result c = search needs
+
+returns-3 : tie.Need-returns-3
+returns-3 c = search needs
 
 pub lookups-made-spec : {M : Type 1} → statement M
 lookups-made-spec =
@@ -51,5 +60,8 @@ lookups-made-spec =
     slice-aggregate-run-cycle-3
     slice-aggregate-run-cycle-4
     slice-aggregate-run-cycle-5
+    slice-aggregate-run-cycle-6
     run-cycle-requires
-    returns-2)
+    returns-2
+    sub-result
+    returns-3)

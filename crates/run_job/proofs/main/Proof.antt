@@ -9,12 +9,12 @@ use Rattle.run_job.proofs.main.Tie as tie
 
 -- the place of the job, from that of its text
 abbrev called : tie.Else1 → tie.After-job
-called c = c .before .before .before .before .before .before .before
+called c = c .before .before .before .before .before .before .before .before
 
 -- the text ends within the buffer
-within : (c : tie.Else1) → called c .job .result ≤ length (called c .job .last .1 .1 .1 .1 .1 .1 .0)
+within : (c : tie.Else1) → called c .job .result ≤ length (called c .job .last .1 .1 .1 .1 .1 .1 .1 .0)
 within c =
-    subst (λ n. called c .job .result ≤ n) (sym (called c .job .kept .1 .1 .1 .1 .1 .1 .0 ∙ length-replicate {A = ℕ} 200000 0)) (c .if1 .left)
+    subst (λ n. called c .job .result ≤ n) (sym (called c .job .kept .1 .1 .1 .1 .1 .1 .1 .0 ∙ length-replicate {A = ℕ} 200000 0)) (c .if1 .left)
 
 slice-aggregate-read-full : tie.Need-slice-aggregate-read-full
 slice-aggregate-read-full c = search needs
@@ -45,6 +45,9 @@ slice-aggregate-job-6 c = search needs
 
 slice-aggregate-job-7 : tie.Need-slice-aggregate-job-7
 slice-aggregate-job-7 c = search needs
+
+slice-aggregate-job-8 : tie.Need-slice-aggregate-job-8
+slice-aggregate-job-8 c = search needs
 
 job-requires : tie.Need-job-requires
 job-requires c κs = search needs
@@ -78,6 +81,7 @@ main-spec =
     slice-aggregate-job-5
     slice-aggregate-job-6
     slice-aggregate-job-7
+    slice-aggregate-job-8
     job-requires
     returns
     array-share-prefix-out

@@ -1,7 +1,7 @@
 //! The calls. A refused one leaves all that is lent as it was.
 
 use super::panel::{blocks, counts, panel};
-use super::schedule::Schedule;
+use super::schedule::{Lookup, Schedule};
 use super::spec::{questions, Spec};
 use super::{all_below, ask};
 use crate::call::{Answer, Call};
@@ -26,6 +26,7 @@ pub fn make(array: &mut Array, call: &mut Call<Vec<u8>>) -> Answer {
         Call::Clear => Answer::done(clear(array)),
         Call::Program { row, levels } => Answer::done(program(array, *row, levels)),
         Call::Drift { row, column, level } => Answer::done(drift(array, *row, *column, *level)),
+        Call::Line { row, byte } => Answer::done(line(array, *row, *byte)),
         Call::Lookup { inputs, matches } => {
             Answer::of(lookup(array, inputs, matches), Answer::Count)
         }
@@ -47,6 +48,11 @@ fn ask_cells(array: &Array) -> Result<Spec, u8> {
     Ok(spec)
 }
 
+/// Question 6 for the lines.
+fn ask_lines(array: &Array) -> Result<(), u8> {
+    ask(array.state.lines.len() == array.shape.rows, 6)
+}
+
 /// Question 6 for counters, flags and totals.
 fn ask_rows(array: &Array) -> Result<(), u8> {
     ask(array.state.counters.len() == array.shape.rows, 6)?;
@@ -63,8 +69,10 @@ fn clear_rows(array: &mut Array) {
 
 fn clear(array: &mut Array) -> Result<(), u8> {
     let spec = ask_cells(array)?;
+    ask_lines(array)?;
     ask_rows(array)?;
     array.state.cells = vec![0; spec.cells()];
+    array.state.lines = vec![0; array.shape.rows];
     clear_rows(array);
     array.cycle = IDLE;
     Ok(())
@@ -90,13 +98,28 @@ fn drift(array: &mut Array, row: usize, column: usize, level: u8) -> Result<(), 
     Ok(())
 }
 
+fn line(array: &mut Array, row: usize, byte: u8) -> Result<(), u8> {
+    questions(array.shape)?;
+    ask_lines(array)?;
+    ask(row < array.shape.rows, 7)?;
+    ask(byte <= 1, 16)?;
+    array.state.lines[row] = byte;
+    Ok(())
+}
+
 fn lookup(array: &Array, inputs: &[u8], matches: &mut Vec<u8>) -> Result<usize, u8> {
     let spec = ask_cells(array)?;
+    ask_lines(array)?;
     ask(inputs.len() == array.shape.width, 6)?;
     ask(matches.len() == array.shape.rows, 6)?;
     ask(all_below(inputs, spec.levels), 8)?;
-    *matches = spec.match_bytes(&array.state.cells, &spec.task_inputs(inputs));
-    Ok(matches.iter().filter(|&&line| line == 1).count())
+    *matches = match_bytes(&spec, array, &spec.task_inputs(inputs));
+    Ok(matches.iter().filter(|&&matched| matched == 1).count())
+}
+
+/// The match bytes of a full vector on the array as it stands.
+fn match_bytes(spec: &Spec, array: &Array, inputs: &[u8]) -> Vec<u8> {
+    spec.match_bytes(&array.state.cells, &array.state.lines, inputs)
 }
 
 fn start(array: &mut Array, skip: usize) -> Result<(), u8> {
@@ -135,6 +158,7 @@ pub fn step_with(
 /// Question 6 for all buffers of a step.
 fn ask_lent(spec: &Spec, array: &Array, matches: &[u8]) -> Result<(), u8> {
     ask(array.state.cells.len() == spec.cells(), 6)?;
+    ask_lines(array)?;
     ask_rows(array)?;
     ask(matches.len() == spec.shape.rows, 6)
 }
@@ -142,46 +166,55 @@ fn ask_lent(spec: &Spec, array: &Array, matches: &[u8]) -> Result<(), u8> {
 /// What an accepted step does.
 fn take_step(spec: &Spec, schedule: &Schedule, array: &mut Array, matches: &mut Vec<u8>) {
     let count = array.cycle.count;
-    let inputs = spec.inputs(schedule.vectors[count]);
-    *matches = spec.match_bytes(&array.state.cells, &inputs);
-    count_matches(spec, array, matches);
-    close(schedule, count, array);
+    let lookup = schedule.lookups[count];
+    *matches = match_bytes(spec, array, &spec.inputs(lookup));
+    match lookup {
+        Lookup::Opening => flag_rows(array, |_, row| matches[row] == 0),
+        Lookup::Vector(_) => {
+            count_matches(spec, array, matches);
+            close(schedule, count, array);
+        }
+    }
     array.cycle = schedule.record(count + 1);
+}
+
+/// Flags the rows of which it is true, and counts the flags anew.
+fn flag_rows(array: &mut Array, is_true: impl Fn(&Array, usize) -> bool) {
+    for row in 0..array.shape.rows {
+        if is_true(array, row) {
+            array.state.flags[row] = 1;
+        }
+    }
+    array.state.totals = counts(&array.state.flags);
 }
 
 /// Each match byte is added to its row's counter mod ρ.
 fn count_matches(spec: &Spec, array: &mut Array, matches: &[u8]) {
     let radix = spec.shape.radix;
-    for (counter, &line) in array.state.counters.iter_mut().zip(matches) {
-        let sum = usize::from(*counter) % radix + usize::from(line);
+    for (counter, &matched) in array.state.counters.iter_mut().zip(matches) {
+        let sum = usize::from(*counter) % radix + usize::from(matched);
         *counter = (sum % radix) as u8;
     }
 }
 
 /// What the end of a digit and the end of a check bring.
 fn close(schedule: &Schedule, count: usize, array: &mut Array) {
-    let rows = array.shape.rows;
     if schedule.ends_digit(count) {
-        for row in 0..rows {
-            if array.state.counters[row] != 0 {
-                array.state.flags[row] = 1;
-            }
-        }
-        array.state.totals = counts(&array.state.flags);
+        flag_rows(array, |array, row| array.state.counters[row] != 0);
     }
     if schedule.ends_check(count) {
-        array.state.counters = vec![0; rows];
+        array.state.counters = vec![0; array.shape.rows];
     }
 }
 
-/// A start and as many steps as the schedule has vectors.
+/// A start and as many steps as the cycle has lookups.
 fn run(array: &mut Array, skip: usize, matches: &mut Vec<u8>) -> Result<(), u8> {
     let spec = questions(array.shape)?;
     ask(skip < array.shape.digits, 15)?;
     ask_lent(&spec, array, matches)?;
     start(array, skip)?;
     let schedule = spec.schedule(skip);
-    for _ in &schedule.vectors {
+    for _ in &schedule.lookups {
         take_step(&spec, &schedule, array, matches);
     }
     Ok(())
@@ -189,10 +222,11 @@ fn run(array: &mut Array, skip: usize, matches: &mut Vec<u8>) -> Result<(), u8> 
 
 fn first_match(array: &Array, inputs: &[u8]) -> Result<Option<usize>, u8> {
     let spec = ask_cells(array)?;
+    ask_lines(array)?;
     ask(inputs.len() == array.shape.width, 6)?;
     ask(all_below(inputs, spec.levels), 8)?;
-    let lines = spec.match_bytes(&array.state.cells, &spec.task_inputs(inputs));
-    Ok((0..array.shape.rows).find(|&row| lines[row] == 1))
+    let matches = match_bytes(&spec, array, &spec.task_inputs(inputs));
+    Ok((0..array.shape.rows).find(|&row| matches[row] == 1))
 }
 
 fn sound(array: &Array, row: usize) -> Result<bool, u8> {

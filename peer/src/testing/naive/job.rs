@@ -27,7 +27,7 @@ fn report(input: &[u8]) -> Result<String, u8> {
         "levels {} columns {} lookups {}\n",
         spec.levels,
         spec.columns(),
-        spec.lookups(0)
+        spec.steps(0)
     );
     for (row, flag) in cycle_flags(&spec, cells).iter().enumerate() {
         let verdict = if *flag == 0 { "ok" } else { "flagged" };
@@ -66,8 +66,8 @@ fn apply(spec: &Spec, drifts: &[u8], cells: &mut [u8]) -> Result<(), u8> {
     Ok(())
 }
 
-/// The flags that a whole cycle leaves, by full lookups through the nested
-/// loops of the schedule.
+/// The flags that a whole cycle leaves where all lines are sound, by full
+/// lookups through the nested loops of the schedule.
 fn cycle_flags(spec: &Spec, cells: Vec<u8>) -> Vec<u8> {
     let schedule = spec.schedule(0);
     let mut matches = vec![0; spec.shape.rows];
@@ -75,6 +75,7 @@ fn cycle_flags(spec: &Spec, cells: Vec<u8>) -> Vec<u8> {
         shape: spec.shape,
         state: State {
             cells,
+            lines: vec![0; spec.shape.rows],
             counters: vec![0; spec.shape.rows],
             flags: vec![0; spec.shape.rows],
             totals: vec![0; blocks(spec.shape.rows)],

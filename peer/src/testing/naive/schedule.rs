@@ -1,9 +1,9 @@
-//! The schedule of a cycle, and the records at its places.
+//! The lookups of a cycle, and the records at their places.
 
 use super::spec::Spec;
 use crate::cycle::{Cycle, Phase};
 
-/// One test vector of a schedule.
+/// One test vector.
 #[derive(Clone, Copy, Debug, PartialEq, Eq)]
 pub struct Vector {
     /// ℓ.
@@ -16,37 +16,54 @@ pub struct Vector {
     pub factor: usize,
 }
 
-/// The test vectors of a cycle, in order.
+/// One lookup of a cycle.
+#[derive(Clone, Copy, Debug, PartialEq, Eq)]
+pub enum Lookup {
+    /// The all-zero vector, which looks for dead lines.
+    Opening,
+    /// A test vector, which counts.
+    Vector(Vector),
+}
+
+/// The lookups of a cycle, in order.
 #[derive(Clone, Debug, PartialEq, Eq)]
 pub struct Schedule {
     /// z.
     pub skip: usize,
-    /// The vectors.
-    pub vectors: Vec<Vector>,
+    /// The lookups.
+    pub lookups: Vec<Lookup>,
 }
 
+/// The place in a record where no vector is next.
+const NOWHERE: Vector = Vector {
+    check: 0,
+    digit: 0,
+    column: 0,
+    factor: 0,
+};
+
 impl Spec {
-    /// The schedule as nested loops. Each ℓ ends at s = z.
+    /// The opening, and then the schedule as nested loops. Each ℓ ends at s = z.
     pub fn schedule(&self, skip: usize) -> Schedule {
         let radix = self.shape.radix;
-        let mut vectors = Vec::new();
+        let mut lookups = vec![Lookup::Opening];
         for check in 0..self.checks {
             for digit in (skip..self.shape.digits).rev() {
                 for column in self.support(check) {
                     for factor in 1..self.levels / radix.pow(digit as u32) {
                         if factor % radix != 0 {
-                            vectors.push(Vector {
+                            lookups.push(Lookup::Vector(Vector {
                                 check,
                                 digit,
                                 column,
                                 factor,
-                            });
+                            }));
                         }
                     }
                 }
             }
         }
-        Schedule { skip, vectors }
+        Schedule { skip, lookups }
     }
 
     /// The schedules of every z that a start takes.
@@ -56,58 +73,61 @@ impl Spec {
 }
 
 impl Schedule {
-    /// The number of vectors.
-    pub fn lookups(&self) -> usize {
-        self.vectors.len()
+    /// The number of steps, one for each lookup.
+    pub fn steps(&self) -> usize {
+        self.lookups.len()
     }
 
-    /// The record that a start and so many accepted steps leave.
+    /// The record that a start and so many accepted steps leave: its place is
+    /// that of the next vector, 0 where the opening or nothing is to come.
     pub fn record(&self, count: usize) -> Cycle {
-        let skip = self.skip;
-        match self.vectors.get(count) {
-            Some(vector) => Cycle {
-                phase: Phase::Open,
-                check: vector.check,
-                digit: vector.digit,
-                column: vector.column,
-                factor: vector.factor,
-                count,
-                skip,
-            },
-            None => Cycle {
-                phase: Phase::Complete,
-                check: 0,
-                digit: 0,
-                column: 0,
-                factor: 0,
-                count,
-                skip,
-            },
+        let (phase, place) = match self.lookups.get(count) {
+            Some(Lookup::Opening) => (Phase::Open, NOWHERE),
+            Some(Lookup::Vector(vector)) => (Phase::Open, *vector),
+            None => (Phase::Complete, NOWHERE),
+        };
+        Cycle {
+            phase,
+            check: place.check,
+            digit: place.digit,
+            column: place.column,
+            factor: place.factor,
+            count,
+            skip: self.skip,
         }
     }
 
     /// Whether the record is one that a start and accepted steps leave, with a
-    /// vector still to come.
+    /// lookup still to come.
     pub fn awaits(&self, cycle: &Cycle) -> bool {
-        cycle.count < self.lookups() && *cycle == self.record(cycle.count)
+        cycle.count < self.steps() && *cycle == self.record(cycle.count)
     }
 
-    /// Whether the vector with the given number is the last one of its check and
-    /// digit, so that its step looks for rows to flag.
-    pub fn ends_digit(&self, count: usize) -> bool {
+    /// Whether the step of the lookup with the given number looks for rows to
+    /// flag: it is the opening, or the last one of its check and digit.
+    pub fn looks_for_flags(&self, count: usize) -> bool {
+        self.lookups[count] == Lookup::Opening || self.ends_digit(count)
+    }
+
+    /// Whether the lookup with the given number is the last one of its check and
+    /// digit.
+    pub(super) fn ends_digit(&self, count: usize) -> bool {
         self.next_differs(count, |vector| (vector.check, vector.digit))
     }
 
-    /// Whether the vector with the given number is the last one of its check, so
+    /// Whether the lookup with the given number is the last one of its check, so
     /// that its step returns the counters to 0.
-    pub fn ends_check(&self, count: usize) -> bool {
+    pub(super) fn ends_check(&self, count: usize) -> bool {
         self.next_differs(count, |vector| vector.check)
     }
 
-    /// Whether no vector follows, or one that differs in what is asked for.
+    /// Whether the lookup is a vector, and none follows or one that differs in
+    /// what is asked for.
     fn next_differs<T: PartialEq>(&self, count: usize, of: impl Fn(&Vector) -> T) -> bool {
-        let now = of(&self.vectors[count]);
-        let next = self.vectors.get(count + 1);
-        next.is_none_or(|next| of(next) != now)
+        match (self.lookups[count], self.lookups.get(count + 1)) {
+            (Lookup::Vector(now), Some(Lookup::Vector(next))) => of(&now) != of(next),
+            (Lookup::Vector(_), _) => true,
+            (Lookup::Opening, _) => false,
+        }
     }
 }

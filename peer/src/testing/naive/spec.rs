@@ -1,6 +1,6 @@
 //! Shapes, the parity-check matrix, codewords and match lines.
 
-use super::schedule::Vector;
+use super::schedule::{Lookup, Vector};
 use crate::shape::Shape;
 
 /// A shape that passed questions 1 to 5, with what follows from it.
@@ -99,9 +99,15 @@ impl Spec {
             .sum()
     }
 
-    /// The number of vectors of a cycle that skips so many low digits.
+    /// The number of vectors of a cycle that skips so many low digits, the
+    /// opening left out.
     pub fn lookups(&self, skip: usize) -> usize {
         (self.levels / self.shape.radix.pow(skip as u32) - 1) * self.weight()
+    }
+
+    /// The number of steps of such a cycle.
+    pub fn steps(&self, skip: usize) -> usize {
+        1 + self.lookups(skip)
     }
 
     /// Whether a row is sound, by the definition.
@@ -150,12 +156,19 @@ impl Spec {
         u8::try_from(cell).expect("a level")
     }
 
-    /// The full vector of n inputs.
-    pub fn inputs(&self, vector: Vector) -> Vec<u8> {
+    /// The n inputs of a lookup: all 0 in an opening, all but one in a vector.
+    pub fn inputs(&self, lookup: Lookup) -> Vec<u8> {
         let mut inputs = vec![0; self.columns()];
-        let level = vector.factor * self.shape.radix.pow(vector.digit as u32);
-        inputs[vector.column] = u8::try_from(level).expect("a level");
+        if let Lookup::Vector(vector) = lookup {
+            inputs[vector.column] = self.input(vector);
+        }
         inputs
+    }
+
+    /// The input of a vector's column.
+    fn input(&self, vector: Vector) -> u8 {
+        let level = vector.factor * self.shape.radix.pow(vector.digit as u32);
+        u8::try_from(level).expect("a level")
     }
 
     /// One row of the cells.
@@ -164,9 +177,9 @@ impl Spec {
     }
 
     /// The match bytes of a full vector.
-    pub fn match_bytes(&self, cells: &[u8], inputs: &[u8]) -> Vec<u8> {
+    pub fn match_bytes(&self, cells: &[u8], lines: &[u8], inputs: &[u8]) -> Vec<u8> {
         (0..self.shape.rows)
-            .map(|row| match_line(self.row(cells, row), inputs))
+            .map(|row| match_byte(lines[row], self.row(cells, row), inputs))
             .collect()
     }
 
@@ -178,9 +191,12 @@ impl Spec {
     }
 }
 
-/// The match byte of a row under a full vector.
-fn match_line(row: &[u8], inputs: &[u8]) -> u8 {
+/// The match byte of a row under a full vector: 0 where its line is dead.
+fn match_byte(line: u8, row: &[u8], inputs: &[u8]) -> u8 {
     assert_eq!(row.len(), inputs.len());
     let no = row.iter().zip(inputs).any(|(cell, input)| input > cell);
-    u8::from(!no)
+    match line {
+        0 => u8::from(!no),
+        _ => 0,
+    }
 }

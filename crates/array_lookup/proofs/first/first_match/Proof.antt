@@ -24,11 +24,12 @@ use Rattle.array_lookup.proofs.first.first_match.Tie as tie
 
 -- the questions of the call, and those of `check_lookup`: no match bytes come with the call, and m for their number passes
 abbrev ownQuestions : tie.Start → List Question
-ownQuestions c = cellsQuestions (c .args .shape) (length (c .args .cells .now)) (inputArguments (c .args .shape) (c .args .inputs .now))
+ownQuestions c = cellsQuestions (c .args .shape) (length (c .args .cells .now)) (inputArguments (c .args .shape) (length (c .args .lines .now)) (c .args .inputs .now))
 
 abbrev questions : tie.Start → List Question
 questions c =
-    cellsQuestions (c .args .shape) (length (c .args .cells .now)) (lookupArguments (c .args .shape) (c .args .shape .rows) (c .args .inputs .now))
+    cellsQuestions (c .args .shape) (length (c .args .cells .now))
+    (lookupArguments (c .args .shape) (length (c .args .lines .now)) (c .args .shape .rows) (c .args .inputs .now))
 
 no-matches : (c : tie.Start) → firstNo (questions c) ≡ firstNo (ownQuestions c)
 no-matches c = rw (eq-eqb (c .args .shape .rows) (c .args .shape .rows) refl) refl
@@ -37,18 +38,20 @@ no-matches c = rw (eq-eqb (c .args .shape .rows) (c .args .shape .rows) refl) re
 abbrev found : tie.Start → Found
 found c =
     let s = c .args .shape in
-    firstRow (s .rows) (rowMatch (columns s) (taskVector s (c .args .inputs .now)) (c .args .cells .now))
+    firstRow (s .rows) (rowMatch (columns s) (taskVector s (c .args .inputs .now)) (c .args .cells .now) (c .args .lines .now))
 
 -- the call's arguments, from the place where the sizes are known
 abbrev begun : tie.After-sizes → tie.Start
-begun c = c .before .before .before .before .before
+begun c = c .before .before .before .before .before .before
 
 module _ (c : tie.After-sizes) where
   asked : Passes (questions (begun c)) (begun c .args .shape) (c .sizes .given .0 .0)
   asked = passes _ _ _ (told (c .before .before .check-lookup .ensures) (c .sizes .given .1))
 
-  given : let args = begun c .args in LookupTaken (args .shape) (length (args .cells .now)) (args .shape .rows) (args .inputs .now)
-  given = let args = begun c .args in lookup-taken (args .shape) (length (args .cells .now)) (args .shape .rows) (args .inputs .now) (asked .none)
+  given : let args = begun c .args in LookupTaken (args .shape) (length (args .cells .now)) (length (args .lines .now)) (args .shape .rows) (args .inputs .now)
+  given =
+      let args = begun c .args in
+      lookup-taken (args .shape) (length (args .cells .now)) (length (args .lines .now)) (args .shape .rows) (args .inputs .now) (asked .none)
 
 check-lookup-requires : tie.Need-check-lookup-requires
 check-lookup-requires c κs = search needs
@@ -67,13 +70,14 @@ find-match-requires c κs =
       inputs-fit (p .cells) (sizes .sizes .given .0 .0) (asked sizes .sizes) (length (args .inputs .now)) (p .sized),
       rows-fit (p .cells) (sizes .sizes .given .0 .0) (asked sizes .sizes),
       limits (args .shape) (p .cells .taken) .rowsHigh,
+      p .lines,
     )
 
 returns : tie.Need-returns
 unfolding firstCall
 returns c =
     let check = c .before .before .before in
-    let start = check .before .before .before in
+    let start = check .before .before .before .before in
     let number = c .before .number .given in
     let no = fails (questions start) (start .args .shape) (number .0 .0) (told (check .check-lookup .ensures) (number .1)) in
     λ mem. ap (λ n. answering none n (found start)) (sym (no-matches start) ∙ no .0)
@@ -91,7 +95,8 @@ returns-2 c =
     (sym
     (search-same _ _ (s .rows) 0
     (λ i h. ap (λ b. eqb b 1)
-    (task-byte s (sizes .sizes .given .0 .0) (start .args .inputs .now) (start .args .cells .now) (p .cells) (asked sizes .sizes) (p .sized) i (omega arith)))))
+    (task-byte s (sizes .sizes .given .0 .0) (start .args .inputs .now) (start .args .cells .now) (start .args .lines .now) (p .cells) (asked sizes .sizes)
+    (p .sized) i (omega arith)))))
     ∙ sym (c .find-match .ensures)
 
 pub first-match-spec : {M : Type 1} → statement M

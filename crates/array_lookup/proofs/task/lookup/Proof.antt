@@ -12,7 +12,7 @@ use Rattle.shape.specs.Answers.{accepted, giving}
 use Rattle.shape.proofs.Refusals.{told, Passes, passes, fails}
 use Rattle.shape.proofs.Calling.{call-refused, call-done}
 use Rattle.array_memory.specs.Geometry.{matchBytes}
-use Rattle.array_memory.specs.Memory.{withCells, noMemory}
+use Rattle.array_memory.specs.Memory.{withArray, noMemory}
 use Rattle.array_memory.specs.Questions.{cellsQuestions}
 use Rattle.array_lookup.specs.Lookups.{lookupArguments, taskMatches, taskCount, lookupCall}
 use Rattle.array_lookup.proofs.RowBytes.{byteOf, inputs-fit, rows-fit, task-byte}
@@ -23,24 +23,28 @@ use Rattle.array_lookup.proofs.task.lookup.Tie as tie
 abbrev questions : tie.Start → List Question
 questions c =
     cellsQuestions (c .args .shape) (length (c .args .cells .now))
-    (lookupArguments (c .args .shape) (length (c .args .matches .now)) (c .args .inputs .now))
+    (lookupArguments (c .args .shape) (length (c .args .lines .now)) (length (c .args .matches .now)) (c .args .inputs .now))
 
 -- the call's arguments, from the place where the sizes are known
 abbrev begun : tie.After-sizes → tie.Start
-begun c = c .before .before .before .before .before .before
+begun c = c .before .before .before .before .before .before .before
 
 module _ (c : tie.After-sizes) where
   asked : Passes (questions (begun c)) (begun c .args .shape) (c .sizes .given .0 .0)
   asked = passes _ _ _ (told (c .before .before .check-lookup .ensures) (c .sizes .given .1))
 
-  given : let args = begun c .args in LookupTaken (args .shape) (length (args .cells .now)) (length (args .matches .now)) (args .inputs .now)
-  given = let args = begun c .args in lookup-taken (args .shape) (length (args .cells .now)) (length (args .matches .now)) (args .inputs .now) (asked .none)
+  given :
+      let args = begun c .args in
+      LookupTaken (args .shape) (length (args .cells .now)) (length (args .lines .now)) (length (args .matches .now)) (args .inputs .now)
+  given =
+      let args = begun c .args in
+      lookup-taken (args .shape) (length (args .cells .now)) (length (args .lines .now)) (length (args .matches .now)) (args .inputs .now) (asked .none)
 
 -- the match bytes that are written are those of the rows
 matched :
     (c : tie.After-match-rows)
     → let args = begun (c .before .before .before) .args in
-    c .match-rows .last .1 .1 .1 .0 ≡ taskMatches (args .shape) (withCells (args .cells .now) noMemory) (args .inputs .now)
+    c .match-rows .last .1 .1 .1 .1 .0 ≡ taskMatches (args .shape) (withArray (args .cells .now) (args .lines .now) noMemory) (args .inputs .now)
 unfolding taskMatches matchBytes
 matched c =
     let sizes = c .before .before .before in
@@ -49,8 +53,8 @@ matched c =
     let z = sizes .sizes .given .0 .0 in
     let p = given sizes in
     c .match-rows .ensures .1
-    ∙ ap (λ m. tabulate m (byteOf (args .inputs .now) (args .cells .now) (z .columns))) (p .matches)
-    ∙ tabulate-same (s .rows) _ _ (task-byte s z (args .inputs .now) (args .cells .now) (p .cells) (asked sizes .sizes) (p .sized))
+    ∙ ap (λ m. tabulate m (byteOf (args .inputs .now) (args .cells .now) (args .lines .now) (z .columns))) (p .matches)
+    ∙ tabulate-same (s .rows) _ _ (task-byte s z (args .inputs .now) (args .cells .now) (args .lines .now) (p .cells) (asked sizes .sizes) (p .sized))
 
 check-lookup-requires : tie.Need-check-lookup-requires
 check-lookup-requires c κs = search needs
@@ -70,15 +74,16 @@ match-rows-requires c κs =
       inputs-fit (p .cells) (sizes .sizes .given .0 .0) (asked sizes .sizes) (length (args .inputs .now)) (p .sized),
       rw (p .matches) fit,
       omega (arith, p .matches, limits (args .shape) (p .cells .taken) .rowsHigh),
+      p .lines ∙ sym (p .matches),
     )
 
 returns : tie.Need-returns
 unfolding lookupCall
 returns c =
     let check = c .before .before .before in
-    let start = check .before .before .before .before in
+    let start = check .before .before .before .before .before in
     let number = c .before .number .given in
-    λ mem. call-refused _ (start .args .matches .now) (withCells (start .args .cells .now) mem) _ (number .0 .0)
+    λ mem. call-refused _ (start .args .matches .now) (withArray (start .args .cells .now) (start .args .lines .now) mem) _ (number .0 .0)
     (fails (questions start) (start .args .shape) (number .0 .0) (told (check .check-lookup .ensures) (number .1)))
 
 same-length : tie.Need-same-length
@@ -91,8 +96,8 @@ returns-2 c =
     let sizes = looked .before .before .before in
     let args = begun sizes .args in
     let count = looked .match-rows .ensures .0 ∙ ap (λ bytes. sumOver bytes (λ byte. byte)) (matched looked) in
-    λ mem. call-done _ (args .matches .now) (withCells (args .cells .now) mem) _ (asked sizes .none)
-    ∙ ap₂ (λ n bytes. giving (accepted n) bytes (withCells (args .cells .now) mem)) (sym count) (sym (matched looked))
+    λ mem. call-done _ (args .matches .now) (withArray (args .cells .now) (args .lines .now) mem) _ (asked sizes .none)
+    ∙ ap₂ (λ n bytes. giving (accepted n) bytes (withArray (args .cells .now) (args .lines .now) mem)) (sym count) (sym (matched looked))
 
 pub lookup-spec : {M : Type 1} → statement M
 lookup-spec =

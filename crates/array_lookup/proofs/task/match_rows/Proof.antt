@@ -20,19 +20,19 @@ abbrev sum : List ℕ → ℕ
 sum xs = sumOver xs (λ x. x)
 
 abbrev Inv-loop : tie.InvT-loop
-Inv-loop cells columns inputs matches₀ count₀ start₀ i₀ matches count start i =
+Inv-loop cells lines columns inputs matches₀ count₀ start₀ i₀ matches count start i =
     (i ≤ length matches₀) × (length matches ≡ length matches₀) × (start ≡ i * columns) × (count ≤ i)
-    × (matches ≡ filled (byteOf inputs cells columns) matches₀ i) × (count ≡ sum (tabulate i (byteOf inputs cells columns)))
+    × (matches ≡ filled (byteOf inputs cells lines columns) matches₀ i) × (count ≡ sum (tabulate i (byteOf inputs cells lines columns)))
 
 abbrev μ-loop : tie.MeasureT-loop
-μ-loop cells columns inputs matches₀ count₀ start₀ i₀ matches count start i = length matches₀ - i
+μ-loop cells lines columns inputs matches₀ count₀ start₀ i₀ matches count start i = length matches₀ - i
 
 -- the places of the call and of the loop, each from one that follows
 abbrev begun : tie.At-loop Inv-loop μ-loop → tie.Start Inv-loop μ-loop
-begun c = c .before .before .before .before
+begun c = c .before .before .before .before .before
 
-abbrev looped : tie.After-match-byte Inv-loop μ-loop → tie.At-loop Inv-loop μ-loop
-looped c = c .before .before .before
+abbrev looped : tie.After-line-match Inv-loop μ-loop → tie.At-loop Inv-loop μ-loop
+looped c = c .before .before .before .before
 
 -- the row ends within the cells
 ends :
@@ -45,21 +45,21 @@ ends c =
 
 -- what the comparison of the lent row gives is row i's match byte
 byte-is :
-    (c : tie.After-match-byte Inv-loop μ-loop)
+    (c : tie.After-line-match Inv-loop μ-loop)
     → let args = begun (looped c) .args in
-    c .match-byte .result ≡ byteOf (args .inputs .now) (args .cells .now) (args .columns) (looped c .loop .i)
+    c .line-match .result ≡ byteOf (args .inputs .now) (args .cells .now) (args .lines .now) (args .columns) (looped c .loop .i)
 byte-is c =
     let args = begun (looped c) .args in
     let loop = looped c .loop in
-    c .match-byte .ensures
-    ∙ part-byte (args .inputs .now) (args .cells .now) (args .columns) (loop .i) (loop .start) (loop .start + args .columns - loop .start)
+    c .line-match .ensures
+    ∙ part-byte (args .inputs .now) (args .cells .now) (args .lines .now) (args .columns) (loop .i) (loop .start) (loop .start + args .columns - loop .start)
     (loop .inv .2) (omega arith)
 
 one-or-none : (c : tie.After-wide Inv-loop μ-loop) → c .wide .result ≤ 1
 one-or-none c =
     let turn = looped (c .before) in
     let args = begun turn .args in
-    let high = byte-high (args .inputs .now) (args .cells .now) (args .columns) (turn .loop .i) in
+    let high = byte-high (args .inputs .now) (args .cells .now) (args .lines .now) (args .columns) (turn .loop .i) in
     omega (arith, c .wide .ensures ∙ byte-is (c .before))
 
 loop-holds : tie.Need-loop-holds Inv-loop μ-loop
@@ -68,20 +68,24 @@ loop-holds c = (omega arith, refl, omega arith, omega arith, refl, refl)
 add-end : tie.Need-add-end Inv-loop μ-loop
 add-end c = omega (arith, ends c)
 
-sub-match-byte : tie.Need-sub-match-byte Inv-loop μ-loop
-sub-match-byte c = omega arith
+shared-slice-read-line-match : tie.Need-shared-slice-read-line-match Inv-loop μ-loop
+shared-slice-read-line-match c = omega arith
 
-part-match-byte-start : tie.Need-part-match-byte-start Inv-loop μ-loop
-part-match-byte-start c = omega arith
+sub-line-match : tie.Need-sub-line-match Inv-loop μ-loop
+sub-line-match c = omega arith
 
-part-match-byte-end : tie.Need-part-match-byte-end Inv-loop μ-loop
-part-match-byte-end c = ends c
+part-line-match-start : tie.Need-part-line-match-start Inv-loop μ-loop
+part-line-match-start c = omega arith
 
-match-byte-requires : tie.Need-match-byte-requires Inv-loop μ-loop
-match-byte-requires c κs =
-    let args = begun (c .before .before) .args in
-    let start = c .before .before .loop .start in
-    omega (arith, mid-len start (start + args .columns) (args .cells .now) (ends (c .before)))
+part-line-match-end : tie.Need-part-line-match-end Inv-loop μ-loop
+part-line-match-end c = ends (c .before)
+
+line-match-requires : tie.Need-line-match-requires Inv-loop μ-loop
+line-match-requires c κs =
+    let turn = c .before .before .before in
+    let args = begun turn .args in
+    let start = turn .loop .start in
+    omega (arith, mid-len start (start + args .columns) (args .cells .now) (ends (c .before .before)))
 
 slice-write-matches : tie.Need-slice-write-matches Inv-loop μ-loop
 slice-write-matches c = omega arith
@@ -103,9 +107,9 @@ loop-again c =
     let turn = looped (c .before) in
     let args = begun turn .args in
     let loop = turn .loop in
-    let byte = byteOf (args .inputs .now) (args .cells .now) (args .columns) in (
+    let byte = byteOf (args .inputs .now) (args .cells .now) (args .lines .now) (args .columns) in (
       omega arith,
-      length-set (loop .matches) (loop .i) (c .before .match-byte .result) ∙ loop .inv .1,
+      length-set (loop .matches) (loop .i) (c .before .line-match .result) ∙ loop .inv .1,
       omega arith,
       omega (arith, one-or-none c),
       ap₂ (λ xs x. set xs (loop .i) x) (loop .inv .4) (byte-is (c .before)) ∙ filled-next byte (args .matches .now) (loop .i) (omega arith),
@@ -124,7 +128,7 @@ same-length c = omega arith
 returns : tie.Need-returns Inv-loop μ-loop
 returns c =
     let args = begun (c .before) .args in
-    let byte = byteOf (args .inputs .now) (args .cells .now) (args .columns) in
+    let byte = byteOf (args .inputs .now) (args .cells .now) (args .lines .now) (args .columns) in
     let all : c .before .loop .i ≡ length (args .matches .now) = omega arith in
     let written = c .before .loop .inv .4 ∙ filled-all byte (args .matches .now) (c .before .loop .i) all in
     (c .before .loop .inv .5 ∙ ap (λ n. sum (tabulate n byte)) all ∙ ap sum (sym written), written)
@@ -137,10 +141,11 @@ match-rows-spec =
     μ-loop
     loop-holds
     add-end
-    sub-match-byte
-    part-match-byte-start
-    part-match-byte-end
-    match-byte-requires
+    shared-slice-read-line-match
+    sub-line-match
+    part-line-match-start
+    part-line-match-end
+    line-match-requires
     slice-write-matches
     wide-requires
     add-count

@@ -12,7 +12,7 @@ use Rattle.array_memory.proofs.memory.check_matches.Tie as tie
 
 -- what is asked before, and what is asked here
 abbrev first : tie.Start → List Question
-first c = memoryLengths (c .args .shape) (c .args .cells) (c .args .counters) (c .args .flags) (c .args .totals)
+first c = memoryLengths (c .args .shape) (c .args .cells) (c .args .lines) (c .args .counters) (c .args .flags) (c .args .totals)
 
 abbrev more : tie.Start → List Question
 more c = lengthQuestion (c .args .matches) (c .args .shape .rows) ∷ []

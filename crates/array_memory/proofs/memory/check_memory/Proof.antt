@@ -1,4 +1,4 @@
--- `array_memory::memory::check_memory` meets its contract: what `check_rows` asks, and then 6 on the cells. Assumes nothing.
+-- `array_memory::memory::check_memory` meets its contract: what `check_rows` asks, and then 6 on the cells and on the lines. Assumes nothing.
 use mathlib.Core.Path.{_≡_, refl, ap, subst, _∙_}
 use mathlib.Core.List.{List, [], _∷_, _++_}
 use Prim.Native.Nat.{_*_}
@@ -9,7 +9,7 @@ use Rattle.parity.specs.Questions.{Question}
 use Rattle.shape.specs.Shapes.{thenSays, TellsOf}
 use Rattle.shape.specs.declared.sizes.Checked.the-variants.{Taken}
 use Rattle.shape.proofs.Refusals.{behind-refusal, behind-number, behind-sizes, behind-both, behind-tells}
-use Rattle.array_memory.specs.Memory.{cellCount, rowsLengths, cellsLength}
+use Rattle.array_memory.specs.Memory.{cellCount, rowsLengths, cellsLength, linesLength}
 use Rattle.array_memory.proofs.RowPlaces.{cells-high}
 use Rattle.array_memory.proofs.memory.check_memory.Statement.{statement}
 use Rattle.array_memory.proofs.memory.check_memory.Tie as tie
@@ -19,7 +19,7 @@ abbrev first : tie.Start → List Question
 first c = rowsLengths (c .args .shape) (c .args .counters) (c .args .flags) (c .args .totals)
 
 abbrev more : tie.Start → List Question
-more c = cellsLength (c .args .shape) (c .args .cells) ∷ []
+more c = cellsLength (c .args .shape) (c .args .cells) ∷ linesLength (c .args .shape) (c .args .lines) ∷ []
 
 -- the one behind the other
 behind :
@@ -69,17 +69,27 @@ returns c =
 
 returns-2 : tie.Need-returns-2
 returns-2 c =
+    let sizes = c .before .before .before in
+    let start = begun sizes in
+    let s = start .args .shape in
+    let cells = eq-eqb (start .args .cells) (cellCount s) (c .before .if1 .left ∙ counted sizes) in
+    behind-number (sizes .sizes .given .1) (more start) 5 (rw (cells, ne-eqb (start .args .lines) (s .rows) (c .if2 .taken)) refl)
+    ∙ behind (sizes .before .before)
+
+returns-3 : tie.Need-returns-3
+returns-3 c =
     let asked = c .before .before .before in
     let start = asked .before in
     behind-refusal (c .before .number .given .1) (more start)
     ∙ behind asked
 
-returns-3 : tie.Need-returns-3
-returns-3 c =
-    let sizes = c .before .before in
+returns-4 : tie.Need-returns-4
+returns-4 c =
+    let sizes = c .before .before .before in
     let start = begun sizes in
     let s = start .args .shape in
-    behind-sizes (sizes .sizes .given .1) (more start) (rw (eq-eqb (start .args .cells) (cellCount s) (omega (arith, counted sizes))) refl)
+    let cells = eq-eqb (start .args .cells) (cellCount s) (c .before .if1 .left ∙ counted sizes) in
+    behind-sizes (sizes .sizes .given .1) (more start) (rw (cells, eq-eqb (start .args .lines) (s .rows) (c .if2 .left)) refl)
     ∙ behind (sizes .before .before)
 
 pub check-memory-spec : {M : Type 1} → statement M
@@ -92,4 +102,5 @@ check-memory-spec =
     mul-if1
     returns
     returns-2
-    returns-3)
+    returns-3
+    returns-4)

@@ -17,24 +17,27 @@ use Rattle.cycle.proofs.Cycle.clear.Tie as tie
 
 -- the memory that is lent, whatever else is in it
 abbrev lent : tie.Start → Memory → Memory
-lent c mem = withAll (c .args .cells .now) (c .args .counters .now) (c .args .flags .now) (c .args .totals .now) mem
+lent c mem = withAll (c .args .cells .now) (c .args .lines .now) (c .args .counters .now) (c .args .flags .now) (c .args .totals .now) mem
 
 abbrev questions : tie.Start → List Question
 questions c = clearQuestions (c .args .shape) (lent c noMemory)
 
 -- the call's place, from those where the questions are asked and where they are passed
 abbrev entry : tie.After-check-memory → tie.Start
-entry c = c .before .before .before .before .before .before
+entry c = c .before .before .before .before .before .before .before
 
 abbrev begun : tie.After-enum-told → tie.Start
 begun c = entry (c .before .before)
 
--- the places of the two fills, from the end
+-- the places of the fills, from the end
 abbrev reset : tie.After-done → tie.After-reset-rows
 reset c = c .before .before .before .before .before .before .before
 
-abbrev filled : tie.After-reset-rows → tie.After-fill
-filled c = c .before .before .before .before .before .before
+abbrev lined : tie.After-reset-rows → tie.After-fill2
+lined c = c .before .before .before .before .before .before
+
+abbrev filled : tie.After-fill2 → tie.After-fill
+filled c = c .before .before .before .before
 
 -- what is answered to all of them
 answered : (c : tie.After-check-memory) → checkedSays (c .check-memory .result) ≡ sizesIf (firstNo (questions (entry c))) (entry c .args .shape)
@@ -72,6 +75,9 @@ enum-told c = search needs
 fill-requires : tie.Need-fill-requires
 fill-requires c κs = search needs
 
+fill-requires-2 : tie.Need-fill-requires-2
+fill-requires-2 c κs = search needs
+
 reset-rows-requires : tie.Need-reset-rows-requires
 reset-rows-requires c κs = search needs
 
@@ -99,21 +105,26 @@ same-length-3 c = search needs
 same-length-4 : tie.Need-same-length-4
 same-length-4 c = search needs
 
+same-length-5 : tie.Need-same-length-5
+same-length-5 c = search needs
+
 returns-2 : tie.Need-returns-2
 unfolding clearCall cleared zeroRows
 returns-2 c =
     let rows = reset c in
-    let cells-filled = filled rows in
+    let lines-filled = lined rows in
+    let cells-filled = filled lines-filled in
     let told = cells-filled .before .before in
     let start = begun told in
     let z = sized told in
     let zeros : ℕ → List ℕ = λ n. replicate n 0 in
     let cells = cells-filled .fill .ensures ∙ ap zeros (z .cells) in
+    let lines = lines-filled .fill2 .ensures ∙ ap zeros (z .lines) in
     let counters = rows .reset-rows .ensures .0 ∙ ap zeros (z .rows .counters) in
     let flags = rows .reset-rows .ensures .1 .0 ∙ ap zeros (z .rows .flags) in
     let totals = rows .reset-rows .ensures .1 .1 ∙ ap zeros (z .rows .totals) in
     λ mem. gives-done (questions start) [] (lent start mem) (start .args .self) _ [] [] _ _ idle idle (none told) (c .done .ensures) refl
-    (sym (λ i. withAll (cells i) (counters i) (flags i) (totals i) mem)) refl
+    (sym (λ i. withAll (cells i) (lines i) (counters i) (flags i) (totals i) mem)) refl
 
 pub clear-spec : {M : Type 1} → statement M
 clear-spec =
@@ -125,6 +136,7 @@ clear-spec =
     refused-requires
     enum-told
     fill-requires
+    fill-requires-2
     reset-rows-requires
     done-requires
     returns
@@ -132,4 +144,5 @@ clear-spec =
     same-length-2
     same-length-3
     same-length-4
+    same-length-5
     returns-2)

@@ -1,5 +1,5 @@
 -- `cycle::Cycle::start` meets its contract: `check_skip` and `check_rows` ask, counters, flags and totals are filled with 0, and the record is that
--- of the first lookup. Assumes nothing.
+-- of a start. Assumes nothing.
 use mathlib.Core.Path.{_≡_, refl, sym, ap, _∙_}
 use mathlib.Core.List.{List, [], _++_}
 use Prim.Native.Nat.{ℕ, _<_}
@@ -10,10 +10,9 @@ use Rattle.shape.specs.Shapes.{checkedSays, sizesIf}
 use Rattle.shape.proofs.Refusals.{told, fails, Passes, passes, answer-tells, answer-then}
 use Rattle.array_memory.specs.Memory.{Memory, withRows, noMemory, rowsQuestions}
 use Rattle.array_memory.proofs.Asked.{skip-taken, RowsTaken, rows-taken}
-use Rattle.cycle.specs.Record.{openAt, cycleAt}
+use Rattle.cycle.specs.Record.{cycleAt}
 use Rattle.cycle.specs.Calls.{zeroRows, startArguments, startQuestions, started, startCall}
-use Rattle.cycle.proofs.MatrixPart.{Part, columns-part}
-use Rattle.cycle.proofs.CycleRecord.{lookups-some, record-open}
+use Rattle.cycle.proofs.CycleRecord.{start-record}
 use Rattle.cycle.proofs.Given.{gives-refusal, gives-done}
 use Rattle.cycle.proofs.Cycle.start.Statement.{statement}
 use Rattle.cycle.proofs.Cycle.start.Tie as tie
@@ -29,14 +28,14 @@ questions c = startQuestions (c .args .shape) (lent c noMemory) (c .args .skip)
 abbrev entry : tie.After-check-rows → tie.Start
 entry c = c .before .before .before .before .before
 
-abbrev begun : tie.After-sizes → tie.Start
+abbrev begun : tie.After-enum-told → tie.Start
 begun c = entry (c .before .before)
 
-abbrev filled : tie.After-matrix-of → tie.After-reset-rows
+abbrev filled : tie.After-opening → tie.After-reset-rows
 filled c = c .before .before .before .before .before .before .before
 
-abbrev sized : tie.After-reset-rows → tie.After-sizes
-sized c = c .before .before .before .before .before
+abbrev sized : tie.After-reset-rows → tie.After-enum-told
+sized c = c .before .before .before .before
 
 -- what is answered to all the questions
 answered : (c : tie.After-check-rows) → checkedSays (c .check-rows .result) ≡ sizesIf (firstNo (questions (entry c))) (entry c .args .shape)
@@ -48,9 +47,9 @@ answered c =
     ∙ answer-then (shapeQuestions s ++ startArguments s (start .args .skip)) (rowsQuestions s (lent start noMemory)) s (skip .check-skip .result) refl
     (skip .check-skip .ensures)
 
-module _ (c : tie.After-sizes) where
-  asked : Passes (questions (begun c)) (begun c .args .shape) (c .sizes .given .0 .0)
-  asked = passes _ _ _ (told (answered (c .before .before)) (c .sizes .given .1))
+module _ (c : tie.After-enum-told) where
+  asked : Passes (questions (begun c)) (begun c .args .shape) (c .enum-told .given .0 .0)
+  asked = passes _ _ _ (told (answered (c .before .before)) (c .enum-told .given .1))
 
   parts :
       (begun c .args .skip < begun c .args .shape .digits)
@@ -59,14 +58,6 @@ module _ (c : tie.After-sizes) where
 
   given : RowsTaken (begun c .args .shape) (lent (begun c) noMemory)
   given = rows-taken (begun c .args .shape) (lent (begun c) noMemory) [] (parts .1) .0
-
-matrix-lent :
-    (c : tie.After-matrix-of)
-    → let sizes = sized (filled c) in
-    Part (begun sizes .args .shape) (sizes .sizes .given .0 .0 .columns) (c .matrix-of .result)
-matrix-lent c =
-    let sizes = sized (filled c) in
-    columns-part _ _ _ (given sizes .taken) (ap (λ z. z .columns) (asked sizes .sizes)) (c .matrix-of .ensures)
 
 check-skip-requires : tie.Need-check-skip-requires
 check-skip-requires c κs = search needs
@@ -82,30 +73,14 @@ enum-known-number c = search needs
 refused-requires : tie.Need-refused-requires
 refused-requires c κs = search needs
 
-enum-known-sizes : tie.Need-enum-known-sizes
-enum-known-sizes c = search needs
+enum-told : tie.Need-enum-told
+enum-told c = search needs
 
 reset-rows-requires : tie.Need-reset-rows-requires
 reset-rows-requires c κs = search needs
 
-matrix-of-requires : tie.Need-matrix-of-requires
-matrix-of-requires c κs =
-    let sizes = sized (c .before .before .before .before .before .before) in
-    (given sizes .taken, ap (λ z. z .checks) (asked sizes .sizes))
-
-array-share-prefix-matrix : tie.Need-array-share-prefix-matrix
-array-share-prefix-matrix c = matrix-lent c .within
-
-slice-aggregate-first : tie.Need-slice-aggregate-first
-slice-aggregate-first c = matrix-lent (c .before) .sized
-
-first-requires : tie.Need-first-requires
-first-requires c κs =
-    let sizes = sized (filled (c .before)) in
-    (given sizes .taken, matrix-lent (c .before) .holds)
-
-open-requires : tie.Need-open-requires
-open-requires c κs = search needs
+opening-requires : tie.Need-opening-requires
+opening-requires c κs = search needs
 
 done-requires : tie.Need-done-requires
 done-requires c κs = search needs
@@ -131,8 +106,7 @@ same-length-3 c = search needs
 returns-2 : tie.Need-returns-2
 unfolding startCall started zeroRows
 returns-2 c =
-    let first = c .before .before in
-    let reset = filled (first .before .before) in
+    let reset = filled (c .before) in
     let sizes = sized reset in
     let start = begun sizes in
     let z = given sizes .sized in
@@ -143,11 +117,7 @@ returns-2 c =
     let s = start .args .shape in
     let skip = start .args .skip in
     let t = given sizes .taken in
-    let lt = parts sizes .0 in
-    let cycle =
-    record-open skip s t 0 (lookups-some skip s t lt)
-    ∙ ap (λ place. openAt skip place 0) (first .first .ensures skip lt)
-    ∙ sym (c .before .«open» .ensures) in
+    let cycle = start-record skip s t ∙ sym (c .before .opening .ensures) in
     λ mem. gives-done (questions start) [] (lent start mem) (start .args .self) _ [] [] _ _ (cycleAt skip s 0) _ (asked sizes .none)
     (c .done .ensures) refl (sym (λ i. withRows (counters i) (flags i) (totals i) mem)) cycle
 
@@ -159,13 +129,9 @@ start-spec =
     check-rows-requires
     enum-known-number
     refused-requires
-    enum-known-sizes
+    enum-told
     reset-rows-requires
-    matrix-of-requires
-    array-share-prefix-matrix
-    slice-aggregate-first
-    first-requires
-    open-requires
+    opening-requires
     done-requires
     returns
     same-length

@@ -14,7 +14,7 @@ use Rattle.cycle.proofs.Cycle.step.Tie as tie
 
 -- the memory that is lent, whatever else is in it
 abbrev lent : tie.Start → Memory → Memory
-lent c mem = withAll (c .args .cells .now) (c .args .counters .now) (c .args .flags .now) (c .args .totals .now) mem
+lent c mem = withAll (c .args .cells .now) (c .args .lines .now) (c .args .counters .now) (c .args .flags .now) (c .args .totals .now) mem
 
 -- the questions up to 6, and 9
 abbrev first : tie.Start → List Question
@@ -25,7 +25,7 @@ more c = cycleQuestion (c .args .shape) (c .args .self) ∷ []
 
 -- the call's place, from that of its questions
 abbrev begun : tie.After-check-matches → tie.Start
-begun c = c .before .before .before .before .before .before .before
+begun c = c .before .before .before .before .before .before .before .before
 
 -- what is answered up to 6
 answered : (c : tie.After-check-matches) → checkedSays (c .check-matches .result) ≡ sizesIf (firstNo (first (begun c))) (begun c .args .shape)

@@ -1,4 +1,4 @@
--- `cycle_place::walk::first` meets its contract: the first lookup is that of check row 0 and the highest digit in the first column of J(0), if that
+-- `cycle_place::walk::first` meets its contract: the first test is that of check row 0 and the highest digit in the first column of J(0), if that
 -- digit is not skipped. Assumes nothing.
 use mathlib.Core.Path.{_≡_, sym, _∙_, ap}
 use mathlib.Core.List.{List}
@@ -8,18 +8,20 @@ use Rattle.parity.specs.Matrix.{matrix}
 use Rattle.parity.specs.Questions.{Taken}
 use Rattle.parity.specs.declared.Shape.{Shape}
 use Rattle.parity.proofs.Taken.{limits}
-use Rattle.cycle_place.specs.Places.{placeAt, placeOf, entryAt}
+use Rattle.cycle_place.specs.Places.{placeAt, nextAt}
+use Rattle.cycle_place.specs.declared.walk.Next.the-variants as nexts
 use Rattle.cycle_place.proofs.CheckRows.{heldFrom}
-use Rattle.cycle_place.proofs.Places.{place-entry}
+use Rattle.cycle_place.proofs.Places.{place-next}
 use Rattle.cycle_place.proofs.Following.{place-first}
 use Rattle.cycle_place.proofs.walk.first.Statement.{statement}
 use Rattle.cycle_place.proofs.walk.first.Tie as tie
 
 first-as :
     (z : ℕ) (s : Shape) → Taken s → z < s .digits → {j : ℕ} {cs : List ℕ} → j ≡ heldFrom cs 0 0 → cs ≡ matrix s
-    → placeOf (entryAt z s 0) ≡ placeAt 0 (s .digits - 1) j 1
+    → nextAt z s 1 ≡ nexts.Place (placeAt 0 (s .digits - 1) j 1)
 first-as z s t h found all =
-    ap placeOf (place-entry z s t 0 _ (place-first z s t h) .1) ∙ ap (λ j. placeAt 0 (s .digits - 1) j 1) (sym (found ∙ ap (λ cs. heldFrom cs 0 0) all))
+    place-next z s t 1 _ (place-first z s t h)
+    ∙ ap (λ j. nexts.Place (placeAt 0 (s .digits - 1) j 1)) (sym (found ∙ ap (λ cs. heldFrom cs 0 0) all))
 
 sub-t4 : tie.Need-sub-t4
 sub-t4 c = limits (c .before .args .shape) (c .before .pre .0) .digitsLow

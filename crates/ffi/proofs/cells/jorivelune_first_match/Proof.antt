@@ -21,8 +21,8 @@ use Rattle.ffi.proofs.cells.jorivelune_first_match.Tie as tie
 first-told : (s : Shape) (mem : Memory) (inputs : List ℕ) → Told (firstCall s mem inputs)
 unfolding firstCall
 first-told s mem inputs =
-    answering-told none (firstNo (cellsQuestions s (length (mem .cells)) (inputArguments s inputs)))
-    (firstRow (s .rows) (rowMatch (columns s) (taskVector s inputs) (mem .cells)))
+    answering-told none (firstNo (cellsQuestions s (length (mem .cells)) (inputArguments s (length (mem .lines)) inputs)))
+    (firstRow (s .rows) (rowMatch (columns s) (taskVector s inputs) (mem .cells) (mem .lines)))
 
 first-match-requires : tie.Need-first-match-requires
 first-match-requires c κs = search needs
@@ -39,19 +39,19 @@ enum-known-number c = search needs
 returns : tie.Need-returns
 returns c =
     let looked = c .before .before .before in
-    let m = looked .before .before .before .args .shape .rows in
+    let m = looked .before .before .before .before .args .shape .rows in
     λ mem. tells (first-told _ _ _) (ap (foundSays m) (looked .first-match .ensures mem ∙ ap firstSays (c .before .row .given .1)))
 
 returns-2 : tie.Need-returns-2
 returns-2 c =
     let looked = c .before .before in
-    let m = looked .before .before .before .args .shape .rows in
+    let m = looked .before .before .before .before .args .shape .rows in
     λ mem. tells (first-told _ _ _) (ap (foundSays m) (looked .first-match .ensures mem ∙ ap firstSays (c .enum-told .given .1)))
 
 returns-3 : tie.Need-returns-3
 returns-3 c =
     let looked = c .before .before .before in
-    let m = looked .before .before .before .args .shape .rows in
+    let m = looked .before .before .before .before .args .shape .rows in
     λ mem. tells (first-told _ _ _) (ap (foundSays m) (looked .first-match .ensures mem ∙ ap firstSays (c .before .number .given .1)))
 
 pub jorivelune-first-match-spec : {M : Type 1} → statement M

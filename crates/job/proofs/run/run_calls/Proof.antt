@@ -5,7 +5,7 @@ use native.Mathlib.Omega.{arith}
 use lib.ListN.{length}
 use borrow.Author.Needs.{needs}
 use Rattle.parity.specs.Questions.{Taken}
-use Rattle.array_memory.specs.Memory.{Memory, withCells, withRows, noMemory, Sized}
+use Rattle.array_memory.specs.Memory.{Memory, withCells, withLines, withRows, noMemory, Sized}
 use Rattle.job_parse.proofs.Sizes.{levels-fit}
 use Rattle.job.proofs.TakenJob.{takenJob}
 use Rattle.job.proofs.JobCalls.{clear-left, job-ended}
@@ -14,19 +14,19 @@ use Rattle.job.proofs.run.run_calls.Tie as tie
 
 -- the places of the call and of its parts, each from one that follows
 abbrev entered : tie.After-struct-known → tie.Start
-entered c = c .before .before .before .before .before .before .before
+entered c = c .before .before .before .before .before .before .before .before
 
 abbrev begun : tie.After-clear → tie.Start
-begun c = entered (c .before .before .before .before .before)
+begun c = entered (c .before .before .before .before .before .before)
 
 abbrev cleared : tie.After-program-rows → tie.After-clear
-cleared c = c .before .before .before .before .before .before .before .before .before .before
+cleared c = c .before .before .before .before .before .before .before .before .before .before .before .before
 
 abbrev programmed : tie.After-drift-cells → tie.After-program-rows
 programmed c = c .before .before .before .before
 
 abbrev drifted : tie.After-run-cycle → tie.After-drift-cells
-drifted c = c .before .before .before .before .before .before .before .before
+drifted c = c .before .before .before .before .before .before .before .before .before
 
 abbrev ran : tie.After-result → tie.After-run-cycle
 ran c = c .before .before .before .before .before .before .before .before .before
@@ -40,7 +40,7 @@ few c = levels-fit (c .args .shape) (taken c)
 
 -- what the clear leaves beside the cells
 abbrev rest : tie.After-clear → Memory
-rest c = let left = c .clear .last .1 .1 .1 in withRows (left .0) (left .1 .0) (left .1 .1 .0) noMemory
+rest c = let left = c .clear .last .1 .1 .1 in withLines (left .0) (withRows (left .1 .0) (left .1 .1 .0) (left .1 .1 .1 .0) noMemory)
 
 -- the cells are as many as they were
 cells-kept :
@@ -74,16 +74,21 @@ same-length : tie.Need-same-length
 same-length c = cells-kept (drifted (ran c))
 
 same-length-2 : tie.Need-same-length-2
-same-length-2 c = let cycle = ran c in cycle .run-cycle .kept .1 .1 .1 .1 .0 ∙ cleared (programmed (drifted cycle)) .clear .kept .1 .1 .1 .0
+same-length-2 c = cleared (programmed (drifted (ran c))) .clear .kept .1 .1 .1 .0
 
 same-length-3 : tie.Need-same-length-3
 same-length-3 c = let cycle = ran c in cycle .run-cycle .kept .1 .1 .1 .1 .1 .0 ∙ cleared (programmed (drifted cycle)) .clear .kept .1 .1 .1 .1 .0
 
 same-length-4 : tie.Need-same-length-4
-same-length-4 c = search needs
+same-length-4 c = let cycle = ran c in cycle .run-cycle .kept .1 .1 .1 .1 .1 .1 .0 ∙ cleared (programmed (drifted cycle)) .clear .kept .1 .1 .1 .1 .1 .0
 
 same-length-5 : tie.Need-same-length-5
-same-length-5 c = search needs
+same-length-5 c =
+    let cycle = ran c in
+    cycle .run-cycle .kept .1 .1 .1 .1 .1 .1 .1 .0 ∙ cleared (programmed (drifted cycle)) .clear .kept .1 .1 .1 .1 .1 .1 .0
+
+same-length-6 : tie.Need-same-length-6
+same-length-6 c = search needs
 
 returns : tie.Need-returns
 returns c =
@@ -99,23 +104,24 @@ returns c =
     let first = withCells (clear .last .1 .1 .0) (rest after) in
     let last = withCells (drift .last .1 .1 .1 .0) (rest after) in
     let kept = clear .kept .1 .1 .1 in
-    let left = cycle .last .1 .1 .1 .1 in
+    let left = cycle .last .1 .1 .1 .1 .1 in
     let sized : Sized s last =
     record {
       cells = cells-kept (drifted (ran c)) ∙ sizes .0 .cells;
+      lines = kept .0 ∙ sizes .0 .lines;
       rows =
           record {
-            counters = kept .0 ∙ sizes .0 .rows .counters;
-            flags = kept .1 .0 ∙ sizes .0 .rows .flags;
-            totals = kept .1 .1 .0 ∙ sizes .0 .rows .totals;
+            counters = kept .1 .0 ∙ sizes .0 .rows .counters;
+            flags = kept .1 .1 .0 ∙ sizes .0 .rows .flags;
+            totals = kept .1 .1 .1 .0 ∙ sizes .0 .rows .totals;
           };
     } in
     job-ended (lent .input .now) s (start .pre .0 .1) (taken start) first (withCells (program .last .1 .1 .0) (rest after)) last
     (withRows (left .0) (left .1 .0) (left .1 .1 .0) last)
-    (clear-left s (taken start) (lent .cells .now) (lent .counters .now) (lent .flags .now) (lent .totals .now) (sizes .0) (clear .result) first
+    (clear-left s (taken start) (lent .cells .now) (lent .lines .now) (lent .counters .now) (lent .flags .now) (lent .totals .now) (sizes .0) (clear .result) first
     (clear .ensures noMemory))
     (program .ensures (rest after)) (drift .ensures (rest after)) sized (lent .matches .now) (sizes .1) (cycle .result) (left .1 .1 .1 .0)
-    (cycle .ensures noMemory) refl
+    (cycle .ensures noMemory) (refl, refl)
 
 pub run-calls-spec : {M : Type 1} → statement M
 run-calls-spec =
@@ -132,4 +138,5 @@ run-calls-spec =
     same-length-3
     same-length-4
     same-length-5
+    same-length-6
     returns)

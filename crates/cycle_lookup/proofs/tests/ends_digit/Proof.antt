@@ -1,11 +1,11 @@
--- `cycle::passes::ends_digit` meets its contract: the rank is tested first, and the factor only where that test passes. Assumes nothing.
+-- `cycle_lookup::tests::ends_digit` meets its contract: the rank is tested first, and the factor only where that test passes. Assumes nothing.
 use Prim.Native.Nat.{suc}
 use native.Mathlib.Numerals.{add-one}
 use native.Mathlib.Omega.{arith}
 use borrow.Author.Needs.{needs}
 use borrow.Author.Tests.{eq-eqb, ne-eqb}
-use Rattle.cycle.proofs.passes.ends_digit.Statement.{statement}
-use Rattle.cycle.proofs.passes.ends_digit.Tie as tie
+use Rattle.cycle_lookup.proofs.tests.ends_digit.Statement.{statement}
+use Rattle.cycle_lookup.proofs.tests.ends_digit.Tie as tie
 
 add-if1 : tie.Need-add-if1
 add-if1 c = search needs

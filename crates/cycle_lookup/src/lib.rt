@@ -1,0 +1,3 @@
+// One lookup of the schedule on all rows, the opening's or a test's.
+pub mod opening;
+pub mod tests;
