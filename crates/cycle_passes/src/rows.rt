@@ -79,12 +79,10 @@ pub fn overwrite(signs: &[u8], bytes: &mut [u8], byte: u8)
 {
     let mut i: usize = 0;
     while i < bytes.len() {
-        // a store in both cases, so that the loop can be compiled to vector code
-        if signs[i] == 0 {
-            bytes[i] = bytes[i];
-        } else {
-            bytes[i] = byte;
-        }
+        // one store for both cases, so that the loop can be compiled to vector code
+        let kept = bytes[i];
+        let new = if signs[i] == 0 { kept } else { byte };
+        bytes[i] = new;
         i += 1;
     }
 }

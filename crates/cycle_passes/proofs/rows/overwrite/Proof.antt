@@ -1,6 +1,8 @@
 -- `cycle_passes::rows::overwrite` meets its contract: the first i rows have their bytes, and the next byte is as it was. Assumes nothing.
+use mathlib.Core.Path.{refl, sym, ap, _∙_}
 use mathlib.Core.Logic.{⊎-elim}
-use Prim.Native.Nat.{_-_}
+use mathlib.Core.Bool.{Bool, cond}
+use Prim.Native.Nat.{ℕ, _-_}
 use native.Mathlib.Omega.{arith}
 use lib.ListN.{length, getD}
 use borrow.Author.Tests.{eq-eqb, ne-eqb}
@@ -18,17 +20,14 @@ abbrev μ-loop : tie.MeasureT-loop
 loop-holds : tie.Need-loop-holds Inv-loop μ-loop
 loop-holds c = pass-start _ _
 
+slice-read-kept : tie.Need-slice-read-kept Inv-loop μ-loop
+slice-read-kept c = omega arith
+
 shared-slice-read-if1 : tie.Need-shared-slice-read-if1 Inv-loop μ-loop
 shared-slice-read-if1 c = omega arith
 
-slice-read-bytes : tie.Need-slice-read-bytes Inv-loop μ-loop
-slice-read-bytes c = omega arith
-
 slice-write-bytes : tie.Need-slice-write-bytes Inv-loop μ-loop
 slice-write-bytes c = omega arith
-
-slice-write-bytes-2 : tie.Need-slice-write-bytes-2 Inv-loop μ-loop
-slice-write-bytes-2 c = omega arith
 
 add-i : tie.Need-add-i Inv-loop μ-loop
 add-i c = omega arith
@@ -38,12 +37,16 @@ loop-less c = omega arith
 
 loop-again : tie.Need-loop-again Inv-loop μ-loop
 loop-again c =
-    let loop = c .before .before .before .loop in
-    let sign = getD (c .before .before .before .before .args .signs .now) (loop .i) 0 in
-    ⊎-elim
-    (λ w. pass-next (loop .inv) (w .2) (rw (eq-eqb sign 0 (w .0 .taken)) (pass-here (loop .inv))) (omega arith))
-    (λ w. pass-next (loop .inv) (w .1) (rw (ne-eqb sign 0 (w .0 .left))) (omega arith))
-    (c .if1 .came)
+    let turn = c .before .before .before .before in
+    let loop = turn .loop in
+    let args = turn .before .args in
+    let sign = getD (args .signs .now) (loop .i) 0 in
+    let kept = getD (args .bytes .now) (loop .i) 0 in
+    let choice : Bool → ℕ = λ b. cond b kept (args .byte) in
+    let new =
+    ⊎-elim (λ w. w .1 ∙ pass-here (loop .inv) ∙ sym (ap choice (eq-eqb sign 0 (w .0 .taken)))) (λ w. w .1 ∙ sym (ap choice (ne-eqb sign 0 (w .0 .left))))
+    (c .if1 .came) in
+    pass-next (loop .inv) refl new (omega arith)
 
 same-length : tie.Need-same-length Inv-loop μ-loop
 same-length c = omega arith
@@ -58,10 +61,9 @@ overwrite-spec =
     Inv-loop
     μ-loop
     loop-holds
+    slice-read-kept
     shared-slice-read-if1
-    slice-read-bytes
     slice-write-bytes
-    slice-write-bytes-2
     add-i
     loop-less
     loop-again
