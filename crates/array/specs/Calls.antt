@@ -1,4 +1,5 @@
--- The calls that have no cycle record and no inputs, document 01's and the line call of document 02's Card 4, each as one definition, taken or refused; and what programming does to the memory.
+-- The calls that have no cycle record and no inputs, document 01's and the line call of document 02's Card 4, each as one definition, taken or
+-- refused; and what programming does to the memory.
 use mathlib.Core.Bool.{Bool, false}
 use mathlib.Core.List.{List, [], _∷_}
 use Prim.Native.Nat.{ℕ, _+_, _*_}

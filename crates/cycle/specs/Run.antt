@@ -1,4 +1,5 @@
--- Document 01, "The lists of demand 3", with the line call of document 02's Card 4: calls as data, and a list of them run from the fresh array by the calls' own definitions.
+-- Document 01, "The lists of demand 3", with the line call of document 02's Card 4: calls as data, and a list of them run from
+-- the fresh array by the calls' own definitions.
 use mathlib.Core.List.{List, [], _∷_}
 use Prim.Native.Nat.{ℕ}
 use Rattle.parity.specs.declared.Shape.{Shape}

@@ -137,7 +137,8 @@ impl Cycle {
         totals: &mut [u8],
         matches: &mut [u8],
     ) -> Changed
-        ensures { λ r. ⌜ ((mem : Memory) → stepCall shape (stateOf (withAll (was cells) (was lines) (was counters) (was flags) (was totals) mem) self) (was matches)
+        ensures { λ r. ⌜ ((mem : Memory)
+            → stepCall shape (stateOf (withAll (was cells) (was lines) (was counters) (was flags) (was totals) mem) self) (was matches)
             ≡ changing r (left matches) (withAll (was cells) (was lines) (left counters) (left flags) (left totals) mem)) ⌝ }
     {
         match check_matches(
@@ -170,8 +171,10 @@ impl Cycle {
         matches: &mut [u8],
     ) -> Changed
         requires { ⌜ (firstNo (callQuestions shape []
-            (lentQuestions shape (withAll (now cells) (now lines) (now counters) (now flags) (now totals) noMemory) (now matches)) []) ≡ 0) × (sizes ≡ sizesOf shape) ⌝ }
-        ensures { λ r. ⌜ ((mem : Memory) → stepCall shape (stateOf (withAll (was cells) (was lines) (was counters) (was flags) (was totals) mem) self) (was matches)
+            (lentQuestions shape (withAll (now cells) (now lines) (now counters) (now flags) (now totals) noMemory) (now matches)) []) ≡ 0)
+            × (sizes ≡ sizesOf shape) ⌝ }
+        ensures { λ r. ⌜ ((mem : Memory)
+            → stepCall shape (stateOf (withAll (was cells) (was lines) (was counters) (was flags) (was totals) mem) self) (was matches)
             ≡ changing r (left matches) (withAll (was cells) (was lines) (left counters) (left flags) (left totals) mem)) ⌝ }
     {
         let columns = sizes.columns;

@@ -6,7 +6,7 @@ use mathlib.Core.List.{List}
 use Prim.Native.Nat.{ℕ, suc, _+_, _*_, _%_, _^_, _≤_, _<_}
 use native.Mathlib.Omega.{arith}
 use lib.Dec.{eqb, leb}
-use lib.ListN.{length, getD, replicate, getD-replicate}
+use lib.ListN.{length, getD, replicate}
 use lib.Seq.{ext-getD}
 use Rattle.parity.specs.Lists.{tabulate}
 use Rattle.parity.specs.Match.{allAnswer, matchByte, lineMatch}
@@ -67,7 +67,9 @@ module _ (z : ℕ) (s : Shape) (t : Taken s) (p : Place) (stands : Stands z s p)
 -- ---- the match bytes
 
 -- the byte of row i, by what its cells say
-row-byte : (n : ℕ) (vector cells lines : List ℕ) (i byte : ℕ) → matchByte vector (rowAt n cells i) ≡ byte → rowMatch n vector cells lines i ≡ cond (eqb (getD lines i 0) 0) byte 0
+row-byte :
+    (n : ℕ) (vector cells lines : List ℕ) (i byte : ℕ) → matchByte vector (rowAt n cells i) ≡ byte
+    → rowMatch n vector cells lines i ≡ cond (eqb (getD lines i 0) 0) byte 0
 unfolding rowMatch lineMatch
 row-byte n vector cells lines i byte e = ap (λ byte. cond (eqb (getD lines i 0) 0) byte 0) e
 

@@ -59,7 +59,8 @@ pub fn run_cycle(
     totals: &mut [u8],
     matches: &mut [u8],
 ) -> Changed
-    ensures { λ r. ⌜ ((mem : Memory) → cycleCall shape (stateOf (withAll (was cells) (was lines) (was counters) (was flags) (was totals) mem) cycle) skip (was matches)
+    ensures { λ r. ⌜ ((mem : Memory)
+        → cycleCall shape (stateOf (withAll (was cells) (was lines) (was counters) (was flags) (was totals) mem) cycle) skip (was matches)
         ≡ changing r (left matches) (withAll (was cells) (was lines) (left counters) (left flags) (left totals) mem)) ⌝ }
 {
     match check_matches(

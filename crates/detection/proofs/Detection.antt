@@ -157,8 +157,8 @@ detectionClaim s t calls =
       ended-at = λ e. k .count ∙ k .ended-at e;
       verdict =
           λ (is, off) i h near.
-          right-flag s t (l .skip) (course-ended s t st l a is .0 .partial) (getD (l .lines) i 0) (getD (l .written) i []) (getD (l .standing) i []) (getD (st .memory .flags) i 0)
-          (written-row s _ _ _ (a .rows) i h) (standing-row s _ _ _ (a .rows) i h) near (ended-flag s t st l a is off i h);
+          right-flag s t (l .skip) (course-ended s t st l a is .0 .partial) (getD (l .lines) i 0) (getD (l .written) i []) (getD (l .standing) i [])
+          (getD (st .memory .flags) i 0) (written-row s _ _ _ (a .rows) i h) (standing-row s _ _ _ (a .rows) i h) near (ended-flag s t st l a is off i h);
       dead = λ (is, off) i h dead. ended-flag s t st l a is off i h ∙ dead-flag (getD (l .lines) i 0) dead _;
     }
 

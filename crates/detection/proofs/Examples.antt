@@ -23,8 +23,9 @@ use Rattle.detection.specs.Examples.{ExamplesClaim, examples, LineExampl
 pub examplesClaim : ExamplesClaim
 unfolding
     examples run log blank calling zeroRows cleared fresh programCall driftCall lookupCall startCall stepCall started stepped steppedMemory drifted programmed
-    taskMatches taskCount entryMatches countedRows flaggedRows totalledBlocks resetRows lookedUp stepMatches entryAt nextAt isPlaceOf cycleAt isNext cellCount blocksOf blockAt
-    countFlagged blockTotals rowAt withRow rowMatch matchBytes counted flagged reset factors ofDigit ofCheck tests schedule unitVector testVector matchByte lineMatch taskVector
+    taskMatches taskCount entryMatches countedRows flaggedRows totalledBlocks resetRows lookedUp stepMatches entryAt nextAt isPlaceOf cycleAt isNext
+    cellCount blocksOf blockAt countFlagged blockTotals rowAt withRow rowMatch matchBytes counted flagged reset factors ofDigit ofCheck tests schedule
+    unitVector testVector matchByte lineMatch taskVector
     number checkDigit checkCell encode weight ofWeight columnOrder eligible ruleColumns checkColumns matrix support matrixOnes lookups
     digit levels largest limit redundancy checks columns
 examplesClaim = refl
@@ -41,7 +42,8 @@ lineExamplesClaim = refl
 pub coarseExamplesClaim : CoarseExamplesClaim
 unfolding
     coarseCycle run log blank calling zeroRows cleared fresh programCall driftCall startCall stepCall started stepped steppedMemory drifted programmed
-    entryMatches countedRows flaggedRows totalledBlocks resetRows lookedUp stepMatches entryAt nextAt isPlaceOf cycleAt isNext cellCount blocksOf blockAt countFlagged
+    entryMatches countedRows flaggedRows totalledBlocks resetRows lookedUp stepMatches entryAt nextAt isPlaceOf cycleAt isNext cellCount blocksOf blockAt
+    countFlagged
     blockTotals rowAt withRow rowMatch matchBytes counted flagged reset factors ofDigit ofCheck tests schedule unitVector testVector matchByte lineMatch
     number checkDigit checkCell encode weight ofWeight columnOrder eligible ruleColumns checkColumns matrix support matrixOnes lookups
     digit levels largest limit redundancy checks columns

@@ -33,7 +33,8 @@ use Rattle.cycle.proofs.Asked.{clear-asked, cells-asked, line-asked}
 use Rattle.cycle.proofs.CycleRecord.{stands-at, stands-next, next-idle, next-open, next-complete}
 use Rattle.cycle.proofs.Runs.{run-keeps}
 use Rattle.cycle.proofs.Steps.{started-tallies, started-sized, start-state, stepped-tallies, stepped-cycle, stepped-sized, step-state}
-use Rattle.detection.specs.Log.{Course, none, open-cycle, ended, Log, logProgram, changedBy, logDrift, logLine, logStart, logStep, whileOpen, logCall, logFrom}
+use Rattle.detection.specs.Log.{Course, none, open-cycle, ended, Log, logProgram, changedBy, logDrift, logLine, logStart, logStep, whileOpen}
+use Rattle.detection.specs.Log.{logCall, logFrom}
 use Rattle.detection.proofs.Elements.{all-set, at-set}
 use Rattle.detection.proofs.Rows.{flat-with, flat-set}
 use Rattle.detection.proofs.Agreement.{Cells, codeword-cells, RowsAgree, Running, InCourse, Agrees, wide, standing-row, row-stands, sized, agrees-fresh}
@@ -255,7 +256,8 @@ module _ (s : Shape) (t : Taken s) (st : State) (l : Log) (a : Agrees s st l) wh
       → Agrees s (cond (isNext s (st .cycle)) (stepped s st) st) (whileOpen k (logStep s l) l)
   while-open none f = rw (next-idle s (st .cycle) (f .phase)) a
   while-open open-cycle f =
-      rw (stands-next (l .skip) s (l .count) (st .cycle) (f .0 .stands) ∙ next-open (l .skip) s t (l .count) (f .0 .partial) (f .1)) (agrees-stepped (f .0) (f .1))
+      rw (stands-next (l .skip) s (l .count) (st .cycle) (f .0 .stands) ∙ next-open (l .skip) s t (l .count) (f .0 .partial) (f .1))
+      (agrees-stepped (f .0) (f .1))
   while-open ended f =
       rw (stands-next (l .skip) s (l .count) (st .cycle) (f .0 .stands) ∙ next-complete (l .skip) s t (l .count) (le-of-eq (sym (f .1)))) a
 

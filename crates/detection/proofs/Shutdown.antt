@@ -1,5 +1,5 @@
--- December's shutdown: after a cycle in which nothing has changed, that skips no digit, and with sound lines, programming every flagged row again from what was last written restores
--- every row within τ cells of it, and a whole cycle more flags no row. Assumes nothing.
+-- December's shutdown: after a cycle that skips no digit and in which nothing has changed, and with sound lines, programming every flagged row again
+-- from what was last written restores every row within τ cells of it, and a whole cycle more flags no row. Assumes nothing.
 use mathlib.Core.Path.{_≡_, refl, sym, ap, ap₂, _∙_}
 use mathlib.Core.Logic.{⊎-elim}
 use mathlib.Core.Bool.{Bool, true, false, cond, _&&_, and-eq-true-iff}

@@ -56,4 +56,5 @@ pub stillSoundClaim : StillSoundClaim
 stillSoundClaim s t st lent below buffers sized whole =
     stillClaim 0 s t (limits s t .digitsLow) st lent below buffers sized whole
     ∙ tabulate-same (s .rows) _ _
-    (λ i h. ap (λ b. cond (eqb (getD (st .memory .lines) i 0) 0 && b) 0 1) (sound-test s _ (row-sized s (st .memory .cells) i (lent .cells) h) (row-below s (st .memory .cells) i h below)))
+    (λ i h. ap (λ b. cond (eqb (getD (st .memory .lines) i 0) 0 && b) 0 1)
+    (sound-test s _ (row-sized s (st .memory .cells) i (lent .cells) h) (row-below s (st .memory .cells) i h below)))

@@ -13,7 +13,7 @@ use Rattle.parity.specs.declared.Shape.{Shape}
 use Rattle.parity.proofs.Taken.{limits}
 
 -- in each place, and where there is none
-same-cell : (n j v : ℕ) → getD (replicate n v) j v ≡ v
+pub same-cell : (n j v : ℕ) → getD (replicate n v) j v ≡ v
 same-cell zero j v = refl
 same-cell (suc n) zero v = refl
 same-cell (suc n) (suc j) v = same-cell n j v

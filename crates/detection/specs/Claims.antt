@@ -17,7 +17,7 @@ use Rattle.array_memory.specs.Geometry.{rowAt}
 use Rattle.array_memory.specs.Memory.{Sized, cellCount}
 use Rattle.cycle.specs.Record.{cycleAt, isNext}
 use Rattle.cycle.specs.Calls.{State}
-use Rattle.cycle.specs.Run.{Call, start, program, step, runFrom, run}
+use Rattle.cycle.specs.Run.{Call, clear, start, program, drift, line, lookup, step, runFrom, run}
 use Rattle.detection.specs.Log.{Course, none, open-cycle, ended, log}
 use Rattle.cycle.specs.declared.Cycle.{Cycle}
 use Rattle.cycle.specs.declared.Phase.{Phase}
@@ -35,10 +35,10 @@ phaseOf open-cycle = Open
 phaseOf ended = Complete
 
 -- flag 0 where a row's line is sound and what is seen of its two forms is equal, and 1 where the line is dead or what is seen differs
-pub record RightFlag (line : ℕ) (written standing : List ℕ) (flag : ℕ) : Type 0 where
-  pub unchanged : line ≡ 0 → written ≡ standing → flag ≡ 0
+pub record RightFlag (lineByte : ℕ) (written standing : List ℕ) (flag : ℕ) : Type 0 where
+  pub unchanged : lineByte ≡ 0 → written ≡ standing → flag ≡ 0
   pub changed : (written ≡ standing → ⊥) → flag ≡ 1
-  pub dead : line ≢ 0 → flag ≡ 1
+  pub dead : lineByte ≢ 0 → flag ≡ 1
 
 -- row i after a list of calls: as written, as it stands, its line, and its flag
 abbrev pub wroteAt : Shape → List Call → ℕ → List ℕ
@@ -87,6 +87,21 @@ DetectionClaim = (s : Shape) → Taken s → (calls : List Call) → Detects s c
 -- Where document 01's mark is off nothing has changed, so all of this holds with that mark too.
 abbrev pub UnmarkedClaim : Type 0
 UnmarkedClaim = (s : Shape) (calls : List Call) → EndedUnmarked s calls → EndedStill s calls
+
+-- a list in which no line is set
+abbrev pub SetsNoLine : List Call → Type 0
+SetsNoLine [] = Unit {0}
+SetsNoLine (clear ∷ calls) = SetsNoLine calls
+SetsNoLine (start z ∷ calls) = SetsNoLine calls
+SetsNoLine (program row given ∷ calls) = SetsNoLine calls
+SetsNoLine (drift row column level ∷ calls) = SetsNoLine calls
+SetsNoLine (line row byte ∷ calls) = ⊥
+SetsNoLine (lookup inputs matches ∷ calls) = SetsNoLine calls
+SetsNoLine (step matches ∷ calls) = SetsNoLine calls
+
+-- There every line is sound, so that what is claimed is at least what was claimed before there were lines.
+abbrev pub SoundLinesClaim : Type 0
+SoundLinesClaim = (s : Shape) (calls : List Call) → SetsNoLine calls → (i : ℕ) → lineAt s calls i ≡ 0
 
 -- Demand 3's own sentence, of a cycle that skips no digit, with document 01's mark: it ends exactly at its accepted step 1 + (q − 1) × W, and where it
 -- has ended with the mark off, each row whose two forms differ in at most τ cells has flag 0 if they are equal and its line is sound, and 1 if not.

@@ -90,7 +90,8 @@ module _ (input : List ℕ) (sp : Space) where
         jobRefusal input ≡ 0 → (matches : List ℕ) (st : State)
         → giving (accepted 0) (jobMatches input) (jobState input) ≡ giving (accepted 0) matches st
         → {end : ℕ} {after : List ℕ} → Wrote 0 (reportText (jobShape input) st) (sp .out) end after
-        → let run = withRun matches st sp in jobCall input sp ≡ printed end (space (run .cells) (run .lines) (run .counters) (run .flags) (run .totals) (run .matches) after)
+        → let run = withRun matches st sp in
+        jobCall input sp ≡ printed end (space (run .cells) (run .lines) (run .counters) (run .flags) (run .totals) (run .matches) after)
     unfolding jobText
     taken-job none matches st ran w =
         gives (withRun matches st sp)

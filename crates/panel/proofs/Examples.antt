@@ -20,8 +20,9 @@ use Rattle.panel.specs.Examples.{ExamplesClaim, examples}
 
 pub examplesClaim : ExamplesClaim
 unfolding
-    examples run calling zeroRows cleared fresh driftCall lineCall lineSet startCall stepCall started stepped steppedMemory drifted entryMatches countedRows flaggedRows
-    totalledBlocks resetRows lookedUp stepMatches entryAt nextAt isPlaceOf cycleAt isNext cellCount blocksOf blockAt countFlagged blockTotals rowAt rowMatch matchBytes counted flagged
-    reset factors ofDigit ofCheck tests schedule unitVector testVector matchByte lineMatch weight ofWeight columnOrder eligible ruleColumns checkColumns matrix support digit
+    examples run calling zeroRows cleared fresh driftCall lineCall lineSet startCall stepCall started stepped steppedMemory drifted
+    entryMatches countedRows flaggedRows totalledBlocks resetRows lookedUp stepMatches entryAt nextAt isPlaceOf cycleAt isNext cellCount blocksOf blockAt
+    countFlagged blockTotals rowAt rowMatch matchBytes counted flagged reset factors ofDigit ofCheck tests schedule unitVector testVector matchByte
+    lineMatch weight ofWeight columnOrder eligible ruleColumns checkColumns matrix support digit
     levels largest limit redundancy checks columns firstNonzero panelReading panelCall
 examplesClaim = refl

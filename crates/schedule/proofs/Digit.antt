@@ -1,5 +1,5 @@
--- The tests of one ℓ and s on the tally of a row with a sound line: the match bytes are counted mod ρ, and at the last the row is flagged if the counter is not 0 and the
--- counter returns to 0 where s is z. Assumes nothing.
+-- The tests of one ℓ and s on the tally of a row with a sound line: the match bytes are counted mod ρ, and at the last the row is flagged if the
+-- counter is not 0 and the counter returns to 0 where s is z. Assumes nothing.
 use mathlib.Core.Path.{_≡_, refl, sym, ap, ap₂, _∙_}
 use mathlib.Core.Bool.{Bool, true, false, cond, not}
 use mathlib.Core.List.{List, [], _∷_}
@@ -29,9 +29,18 @@ pub record Plain (s : ℕ) (e : Entry) : Type 0 where
   pub flags : e .flags ≡ false
   pub resets : e .resets ≡ false
 
+-- a test counts, and the last of its digit flags the rows whose counter is not 0
+counted-test : (e : Entry) → e .opens ≡ false → (ρ c m : ℕ) → counted e ρ c m ≡ (c + m) % ρ
+unfolding counted
+counted-test e p ρ c m = rw p refl
+
 turned : (b : Bool) (f : ℕ) → cond (not b) 1 f ≡ cond b f 1
 turned true f = refl
 turned false f = refl
+
+flagged-test : (e : Entry) → e .opens ≡ false → e .flags ≡ true → (m c f : ℕ) → flagged e m c f ≡ cond (eqb c 0) f 1
+unfolding flagged
+flagged-test e p q m c f = rw (q, p) (turned (eqb c 0) f)
 
 module _ (shape : Shape) (row : List ℕ) where
   abbrev pub matched : Entry → ℕ
@@ -41,11 +50,10 @@ module _ (shape : Shape) (row : List ℕ) where
       (c f : ℕ) (e : Entry) → e .opens ≡ false
       → tallyStep shape 0 row e (tally (c % shape .radix) f)
       ≡ tally (reset e ((c + matched e) % shape .radix)) (flagged e (matched e) ((c + matched e) % shape .radix) f)
-  unfolding tallyStep counted lineMatch
+  unfolding tallyStep lineMatch
   step-counted c f e p =
       let ρ : ℕ = shape .radix in
-      let after : ℕ → Tally = λ d. tally (reset e d) (flagged e (matched e) d f) in
-      ap (λ opens. after (cond opens (c % ρ) ((c % ρ + matched e) % ρ))) p ∙ ap after (mod-add-mod c ρ (matched e))
+      ap (λ d. tally (reset e d) (flagged e (matched e) d f)) (counted-test e p ρ (c % ρ) (matched e) ∙ mod-add-mod c ρ (matched e))
 
   step-plain :
       (s c f : ℕ) (e : Entry) → Plain s e → tallyStep shape 0 row e (tally (c % shape .radix) f) ≡ tally ((c + matched e) % shape .radix) f
@@ -56,12 +64,11 @@ module _ (z : ℕ) (shape : Shape) (row : List ℕ) where
   step-last :
       (s c f : ℕ) (e : Entry) → Plain s e
       → tallyStep shape 0 row (ending z e) (tally (c % shape .radix) f) ≡ ended z s ((c + matched shape row e) % shape .radix) f
-  unfolding flagged reset testVector
+  unfolding reset testVector
   step-last s c f e p =
       let d : ℕ = (c + matched shape row e) % shape .radix in
       step-counted shape row c f (ending z e) (p .opens)
-      ∙ ap₂ tally (ap (λ i. cond (eqb i z) 0 d) (p .digit))
-      (ap (λ opens. cond (cond opens (eqb (matched shape row e) 0) (not (eqb d 0))) 1 f) (p .opens) ∙ turned (eqb d 0) f)
+      ∙ ap₂ tally (ap (λ i. cond (eqb i z) 0 d) (p .digit)) (flagged-test (ending z e) (p .opens) refl (matched shape row e) d f)
 
   pub run-digit :
       (s c f : ℕ) (es : List Entry) → All (Plain s) es → 0 < length es

@@ -2,21 +2,21 @@
 -- dead line's flag back or counts anything of it. Assumes nothing.
 use mathlib.Core.Path.{_≡_, refl, ap, ap₂, _∙_}
 use mathlib.Core.Logic.{_≢_}
-use mathlib.Core.Bool.{Bool, true, false, cond, _&&_}
+use mathlib.Core.Bool.{cond, _&&_}
 use mathlib.Core.List.{List, [], _∷_}
-use Prim.Native.Nat.{ℕ, _+_, _*_, _%_, _^_, _<_}
+use Prim.Native.Nat.{ℕ, _+_, _%_, _^_, _<_}
 use native.Mathlib.Nat.{zero-mul, zero-mod}
 use native.Mathlib.Omega.{arith}
 use lib.Dec.{eqb, leb, leb·zero}
 use lib.ListN.{length, getD}
 use borrow.Author.Tests.{ne-eqb}
-use Rattle.parity.specs.Shape.{checks, columns}
+use Rattle.parity.specs.Shape.{columns}
 use Rattle.parity.specs.Match.{matchByte, lineMatch}
 use Rattle.parity.specs.Questions.{Taken}
 use Rattle.parity.specs.declared.Shape.{Shape}
 use Rattle.parity.proofs.Taken.{limits}
 use Rattle.schedule.specs.Schedule.{Entry, tests, opening, testVector, schedule}
-use Rattle.schedule.specs.Tally.{Tally, counted, isSuspect, flagged, reset, tallyStep, tallyRun}
+use Rattle.schedule.specs.Tally.{counted, isSuspect, flagged, reset, tallyStep, tallyRun}
 use Rattle.schedule.specs.Claims.{DeadClaim}
 use Rattle.schedule.proofs.Sums.{cond-same}
 use Rattle.schedule.proofs.Lookup.{match-entry}

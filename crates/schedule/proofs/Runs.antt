@@ -30,7 +30,9 @@ module _ (s : Shape) (line : ℕ) (row : List ℕ) where
       → tallyRun s line row (joined n f) (tallies 0) ≡ tallies n
   tallyRun-joined zero f tallies h = refl
   tallyRun-joined (suc n) f tallies h =
-      tallyRun-append (joined n f) (f n) (tallies 0) ∙ ap (tallyRun s line row (f n)) (tallyRun-joined n f tallies (λ i l. h i (omega arith))) ∙ h n (omega arith)
+      tallyRun-append (joined n f) (f n) (tallies 0)
+      ∙ ap (tallyRun s line row (f n)) (tallyRun-joined n f tallies (λ i l. h i (omega arith)))
+      ∙ h n (omega arith)
 
 -- two rows that give each lookup the same match byte are counted alike, whatever their line
 pub tallyRun-alike :

@@ -12,6 +12,11 @@ pub if-no : {A : Type 0} (n : ℕ) → 0 < n → (new old : A) → ifTaken n new
 if-no zero h new old = absurd (omega arith)
 if-no (suc n) h new old = refl
 
+-- what holds of both holds of either
+pub if-either : {A : Type 0} (P : A → Type 0) (n : ℕ) (new old : A) → P new → P old → P (ifTaken n new old)
+if-either P zero new old p q = p
+if-either P (suc n) new old p q = q
+
 module _ {S : Type 0} (questions : List Question) (bytes : List ℕ) (state : S) (done : Result S) where
   pub call-refused : (n : ℕ) → (firstNo questions ≡ n) × (0 < n) → calling questions bytes state done ≡ giving (refused 0 n) bytes state
   unfolding calling

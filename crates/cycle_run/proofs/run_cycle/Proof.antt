@@ -91,7 +91,8 @@ module _ (c : tie.After-start) where
   abbrev first : Memory → State
   first mem =
       let last = c .start .last .1 .1 .1 in
-      stateOf (withAll (entered (passed c) .args .cells .now) (entered (passed c) .args .lines .now) (last .0) (last .1 .0) (last .1 .1 .0) mem) (c .start .result .cycle)
+      let args = entered (passed c) .args in
+      stateOf (withAll (args .cells .now) (args .lines .now) (last .0) (last .1 .0) (last .1 .1 .0) mem) (c .start .result .cycle)
 
   abbrev given : Memory → State
   given mem = stateOf (lent (entered (passed c)) mem) (entered (passed c) .args .cycle)
@@ -176,7 +177,8 @@ returns-2 c =
     ∙ ap₂ (λ z st. giving (accepted 0) (lastMatches z s (lent entry mem)) (runFrom s st (replicate (cycleSteps z s) (step matches)))) (sym (kept begin))
     (left begin mem)
     ∙ ran c .run-open .ensures mem
-    ∙ ap (λ r. changing r (last .1 .1 .1 .0) (withAll (entry .args .cells .now) (entry .args .lines .now) (last .0) (last .1 .0) (last .1 .1 .0) mem)) (sym (c .done .ensures))
+    ∙ ap (λ r. changing r (last .1 .1 .1 .0) (withAll (entry .args .cells .now) (entry .args .lines .now) (last .0) (last .1 .0) (last .1 .1 .0) mem))
+    (sym (c .done .ensures))
 
 pub run-cycle-spec : {M : Type 1} → statement M
 run-cycle-spec =

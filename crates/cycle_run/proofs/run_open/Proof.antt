@@ -56,7 +56,8 @@ turn :
     (mem : Memory)
     → Going (args .cycle .skip) (args .shape)
     (stateOf (withAll (args .cells .now) (args .lines .now) (args .counters .now) (args .flags .now) (args .totals .now) mem) (args .cycle))
-    (args .matches .now) (now .count) (stateOf (withAll (args .cells .now) (args .lines .now) (left .0) (left .1 .0) (left .1 .1 .0) mem) now) (left .1 .1 .1 .0)
+    (args .matches .now) (now .count)
+    (stateOf (withAll (args .cells .now) (args .lines .now) (left .0) (left .1 .0) (left .1 .1 .0) mem) now) (left .1 .1 .1 .0)
     × (now .count ≡ suc (loop .loop .now .count)) × (loop .loop .now .count < cycleSteps (args .cycle .skip) (args .shape))
 turn c =
     let loop = looped c in

@@ -1,5 +1,5 @@
 -- `acam::compare::line_match` meets its contract: a line byte but 0 gives 0, and 0 the row's match byte. Assumes nothing.
-use mathlib.Core.Path.{_≡_, sym, ap, _∙_}
+use mathlib.Core.Path.{sym, ap, _∙_}
 use mathlib.Core.Bool.{cond}
 use lib.ListN.{length, take}
 use borrow.Author.Needs.{needs}

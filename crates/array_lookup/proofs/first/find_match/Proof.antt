@@ -171,7 +171,8 @@ rows-again-2 c =
     let row = drop (outer .i * args .columns) (args .cells .now) in
     let no = compare-fails (args .inputs .now) row (fits turned) (loop .j) (omega arith)
     (rw getD-drop (sym (c .before .answers .ensures) ∙ not-true _ (c .if2 .taken))) in
-    let says = match-is (args .inputs .now) (args .cells .now) (args .lines .now) (args .columns) (outer .i) (sound (c .before)) false (sym (loop .inv .2) ∙ no) in
+    let says =
+    match-is (args .inputs .now) (args .cells .now) (args .lines .now) (args .columns) (outer .i) (sound (c .before)) false (sym (loop .inv .2) ∙ no) in
     let left = passed (args .inputs .now) (args .cells .now) (args .lines .now) (args .columns) (args .rows) (outer .i) (omega arith) (outer .inv .1) says in
     (omega arith, rw (loop .inv .0) left)
 

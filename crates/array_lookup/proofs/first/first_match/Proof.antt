@@ -24,7 +24,9 @@ use Rattle.array_lookup.proofs.first.first_match.Tie as tie
 
 -- the questions of the call, and those of `check_lookup`: no match bytes come with the call, and m for their number passes
 abbrev ownQuestions : tie.Start → List Question
-ownQuestions c = cellsQuestions (c .args .shape) (length (c .args .cells .now)) (inputArguments (c .args .shape) (length (c .args .lines .now)) (c .args .inputs .now))
+ownQuestions c =
+    cellsQuestions (c .args .shape) (length (c .args .cells .now))
+    (inputArguments (c .args .shape) (length (c .args .lines .now)) (c .args .inputs .now))
 
 abbrev questions : tie.Start → List Question
 questions c =

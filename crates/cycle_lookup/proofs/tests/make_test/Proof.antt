@@ -88,7 +88,8 @@ module _ (c : tie.After-ends-digit) (b : Bool) (e : c .ends-digit .result ≡ b)
   flags-after : test (begun c) .flags ≡ b
   flags-after =
       let start = begun c in
-      test-ends (start .args .skip) (start .args .shape) (start .pre .0 .0) (start .args .place) (start .pre .0 .2 .0) (start .args .standing) (start .pre .0 .2 .1)
+      test-ends (start .args .skip) (start .args .shape) (start .pre .0 .0) (start .args .place) (start .pre .0 .2 .0)
+      (start .args .standing) (start .pre .0 .2 .1)
       ∙ sym (c .ends-digit .ensures)
       ∙ e
 

@@ -1,5 +1,5 @@
 -- `cycle_place::walk::locate` meets its contract: the lookup after no other is the opening, and every other a test. Assumes nothing.
-use mathlib.Core.Path.{_≡_, sym, ap, _∙_}
+use mathlib.Core.Path.{sym, ap, _∙_}
 use native.Mathlib.Omega.{arith}
 use borrow.Author.Needs.{needs}
 use Rattle.cycle_place.specs.Walk.{locatedAt}

@@ -46,7 +46,8 @@ unfolding clearCall
 returns c =
     let args = start c .args in
     λ mem. stores (clearCall (args .shape))
-    (withAll (args .cells .now) (args .lines .now) (args .counters .now) (args .flags .now) (args .totals .now) mem) (args .words .now) (made c .clear .result) (calling-told _ _ _ _ _ _) (read c .cycle-of .ensures) (made c .clear .ensures mem) (c .store .ensures)
+    (withAll (args .cells .now) (args .lines .now) (args .counters .now) (args .flags .now) (args .totals .now) mem) (args .words .now)
+    (made c .clear .result) (calling-told _ _ _ _ _ _) (read c .cycle-of .ensures) (made c .clear .ensures mem) (c .store .ensures)
 
 pub jorivelune-clear-spec : {M : Type 1} → statement M
 jorivelune-clear-spec =

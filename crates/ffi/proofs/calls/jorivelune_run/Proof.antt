@@ -43,7 +43,8 @@ unfolding cycleCall
 returns c =
     let args = start c .args in
     λ mem. stores (λ st. cycleCall (args .shape) st (args .skip) (args .matches .now))
-    (withAll (args .cells .now) (args .lines .now) (args .counters .now) (args .flags .now) (args .totals .now) mem) (args .words .now) (made c .run-cycle .result)
+    (withAll (args .cells .now) (args .lines .now) (args .counters .now) (args .flags .now) (args .totals .now) mem) (args .words .now)
+    (made c .run-cycle .result)
     (calling-told _ _ _ _ _ _) (read c .cycle-of .ensures) (made c .run-cycle .ensures mem) (c .store .ensures)
 
 pub jorivelune-run-spec : {M : Type 1} → statement M

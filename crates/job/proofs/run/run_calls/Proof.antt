@@ -118,8 +118,8 @@ returns c =
     } in
     job-ended (lent .input .now) s (start .pre .0 .1) (taken start) first (withCells (program .last .1 .1 .0) (rest after)) last
     (withRows (left .0) (left .1 .0) (left .1 .1 .0) last)
-    (clear-left s (taken start) (lent .cells .now) (lent .lines .now) (lent .counters .now) (lent .flags .now) (lent .totals .now) (sizes .0) (clear .result) first
-    (clear .ensures noMemory))
+    (clear-left s (taken start) (lent .cells .now) (lent .lines .now) (lent .counters .now) (lent .flags .now) (lent .totals .now) (sizes .0)
+    (clear .result) first (clear .ensures noMemory))
     (program .ensures (rest after)) (drift .ensures (rest after)) sized (lent .matches .now) (sizes .1) (cycle .result) (left .1 .1 .1 .0)
     (cycle .ensures noMemory) (refl, refl)
 
