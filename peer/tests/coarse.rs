@@ -5,7 +5,7 @@ use peer::testing::lent::Own;
 use peer::testing::naive::calls::make;
 use peer::testing::naive::spec::questions;
 use peer::testing::settings;
-use peer::testing::shapes::small_shape;
+use peer::testing::shapes::{asked, small_shape};
 use peer::testing::skips::{example, too_many};
 use peer::{Answer, Array, Call, Cycle, Name, Phase, Shape, State};
 
@@ -102,19 +102,6 @@ fn sound_is_asked_of_all_digits() {
     }
 }
 
-/// Shapes and the first of questions 1 to 5 that each of them fails.
-const SHAPES: [(u8, Shape); 9] = [
-    (0, GOOD),
-    (1, Shape { radix: 1, ..GOOD }),
-    (1, Shape { radix: 256, ..GOOD }),
-    (2, Shape { digits: 0, ..GOOD }),
-    (2, Shape { digits: 9, ..GOOD }),
-    (3, Shape { errors: 4, ..GOOD }),
-    (4, Shape { width: 0, ..GOOD }),
-    (5, Shape { rows: 0, ..GOOD }),
-    (5, Shape { rows: 4097, ..GOOD }),
-];
-
 /// How many buffers there are: those of the state, cells and lines first, and
 /// behind them the match bytes of a whole cycle.
 fn buffers(name: Name) -> usize {
@@ -163,7 +150,7 @@ fn question_15_comes_after_5_and_before_6() {
     let skips: Vec<usize> = (0..GOOD.digits).chain(too_many(GOOD.digits)).collect();
     for make in BOTH {
         for name in [Name::Start, Name::Run] {
-            for (number, shape) in SHAPES {
+            for (number, shape) in asked(GOOD) {
                 for &skip in &skips {
                     check_order(make, name, number, shape, skip, None);
                     for place in 0..buffers(name) {

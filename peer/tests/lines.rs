@@ -10,7 +10,7 @@ use peer::testing::naive::spec::questions;
 use peer::testing::panels::foreign;
 use peer::testing::random::Random;
 use peer::testing::settings;
-use peer::testing::shapes::{block_shape, small_shape};
+use peer::testing::shapes::{asked, block_shape, small_shape};
 use peer::{Answer, Array, Call, Cycle, Name, Phase, Shape, State};
 
 /// One way of making the calls.
@@ -90,18 +90,6 @@ fn the_line_call_changes_one_byte_and_nothing_else() {
     }
 }
 
-/// Shapes and the first of questions 1 to 5 that each of them fails.
-const SHAPES: [(u8, Shape); 8] = [
-    (0, GOOD),
-    (1, Shape { radix: 256, ..GOOD }),
-    (2, Shape { digits: 0, ..GOOD }),
-    (2, Shape { digits: 9, ..GOOD }),
-    (3, Shape { errors: 4, ..GOOD }),
-    (4, Shape { width: 0, ..GOOD }),
-    (5, Shape { rows: 0, ..GOOD }),
-    (5, Shape { rows: 4097, ..GOOD }),
-];
-
 /// The line call with everything right or wrong in its turn. The first question
 /// that fails counts, and a refused call leaves everything.
 fn check_order(make: Make, number: u8, shape: Shape, length: usize, row: usize, byte: u8) {
@@ -130,7 +118,7 @@ fn check_order(make: Make, number: u8, shape: Shape, length: usize, row: usize, 
 #[test]
 fn question_16_comes_after_7() {
     for make in BOTH {
-        for (number, shape) in SHAPES {
+        for (number, shape) in asked(GOOD) {
             for length in [0, 1, 2, 3] {
                 for row in [0, 1, 2, 256, 1 << 32, usize::MAX] {
                     for byte in [0, 1].into_iter().chain(FOREIGN) {

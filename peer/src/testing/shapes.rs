@@ -1,4 +1,4 @@
-//! Random shapes.
+//! Random shapes, and shapes that a question on them refuses.
 
 use crate::matrix::LARGEST_WIDTH;
 use crate::shape::{Layout, Shape};
@@ -10,6 +10,22 @@ pub const BLOCK_EDGES: [usize; 10] = [1, 63, 64, 65, 127, 128, 129, 130, 4095, 4
 /// The layout of a shape that was drawn as a good one.
 pub(crate) fn layout(shape: Shape) -> Layout {
     shape.layout().expect("a good shape was drawn")
+}
+
+/// A good shape, and shapes made from it, each with the first of questions 1 to 5
+/// that it fails; 0 for the good one.
+pub const fn asked(good: Shape) -> [(u8, Shape); 9] {
+    [
+        (0, good),
+        (1, Shape { radix: 1, ..good }),
+        (1, Shape { radix: 256, ..good }),
+        (2, Shape { digits: 0, ..good }),
+        (2, Shape { digits: 9, ..good }),
+        (3, Shape { errors: 4, ..good }),
+        (4, Shape { width: 0, ..good }),
+        (5, Shape { rows: 0, ..good }),
+        (5, Shape { rows: 4097, ..good }),
+    ]
 }
 
 /// A good shape with few levels, columns and rows.
