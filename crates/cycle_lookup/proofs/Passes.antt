@@ -9,7 +9,7 @@ use lib.Dec.{eqb, leb}
 use lib.ListN.{length, getD, replicate}
 use lib.Seq.{ext-getD}
 use Rattle.parity.specs.Lists.{tabulate}
-use Rattle.parity.specs.Match.{allAnswer, matchByte, lineMatch}
+use Rattle.parity.specs.Match.{matchByte, lineMatch}
 use Rattle.parity.specs.Shape.{columns}
 use Rattle.parity.specs.Questions.{Taken}
 use Rattle.parity.specs.declared.Shape.{Shape}
@@ -88,19 +88,13 @@ bytes-made s e mem said cells look m rows mute =
     ap (λ byte. cond (eqb (getD (mem .lines) i 0) 0) byte 0) (getD-tabulate (s .rows) said i 0 h)
     ∙ sym (row-byte (columns s) (testVector s e) (mem .cells) (mem .lines) i (said i) (cells i h)))
 
-match-low : (line : ℕ) (vector row : List ℕ) → lineMatch line vector row ≤ 1
-unfolding lineMatch matchByte
-match-low line vector row = low (eqb line 0) (allAnswer vector row)
+-- a byte by the cells alone is 0 or 1
+pub column-low : (m : ℕ) (says : ℕ → Bool) (i : ℕ) → i < m → getD (tabulate m (λ i. cond (says i) 1 0)) i 0 ≤ 1
+column-low m says i h = rw getD-tabulate (low (says i))
   where
-    low : (sound b : Bool) → cond sound (cond b 1 0) 0 ≤ 1
-    low true true = omega arith
-    low true false = omega arith
-    low false b = omega arith
-
-module _ (s : Shape) (e : Entry) (mem : Memory) where
-  pub matches-low : (i : ℕ) → i < s .rows → getD (entryMatches s e mem) i 0 ≤ 1
-  unfolding entryMatches matchBytes rowMatch
-  matches-low i h = rw getD-tabulate (match-low (getD (mem .lines) i 0) (testVector s e) (rowAt (columns s) (mem .cells) i))
+    low : (b : Bool) → cond b 1 0 ≤ 1
+    low true = omega arith
+    low false = omega arith
 
 -- a test's, each from one cell
 pub test-matches :

@@ -57,8 +57,7 @@ pub fn make_test(
     // a × ρ^s is below q, and so a byte
     let input = scale(factor, radix, digit) as u8;
     match_column(cells, columns, column, input, matches);
-    overwrite(lines, matches, 0);
-    count_rows(counters, matches, radix);
+    count_rows(counters, lines, matches, radix);
     if !ends_digit(standing, factor) {
         return;
     }

@@ -28,20 +28,22 @@ pub fn match_column(cells: &[u8], columns: usize, column: usize, input: u8, matc
     }
 }
 
-// Counters below ρ, as accepted steps leave them, need no remainder.
-fn count_below(counters: &mut [u8], matches: &[u8], radix: u8)
-    requires { ⌜ (length (now matches) ≡ length (now counters))
+// Counters below ρ, as accepted steps leave them, need no remainder. The match bytes of dead lines become 0 in the same pass,
+// and each byte is chosen before its one store, so that the loop is compiled to vector code.
+fn count_below(counters: &mut [u8], lines: &[u8], matches: &mut [u8], radix: u8)
+    requires { ⌜ (length (now matches) ≡ length (now counters)) × (length (now lines) ≡ length (now counters))
         × ((i : ℕ) → i < length (now counters) → (getD (now counters) i 0 < radix) × (getD (now matches) i 0 ≤ 1)) ⌝ }
-    ensures { λ _. ⌜ left counters ≡ countedBytes radix (was counters) (was matches) ⌝ }
+    ensures muted { λ _. ⌜ left matches ≡ overwrittenBytes (was lines) 0 (was matches) ⌝ }
+    ensures counted { λ _. ⌜ left counters ≡ countedBytes radix (was counters) (left matches) ⌝ }
 {
     let mut i: usize = 0;
     while i < counters.len() {
-        let sum = counters[i] + matches[i];
-        if sum == radix {
-            counters[i] = 0;
-        } else {
-            counters[i] = sum;
-        }
+        let seen = matches[i];
+        let byte = if lines[i] == 0 { seen } else { 0 };
+        matches[i] = byte;
+        let sum = counters[i] + byte;
+        let count = if sum == radix { 0 } else { sum };
+        counters[i] = count;
         i += 1;
     }
 }
@@ -58,16 +60,18 @@ fn count_any(counters: &mut [u8], matches: &[u8], radix: usize)
     }
 }
 
-// Adds each match byte to its row's counter mod ρ.
-pub fn count_rows(counters: &mut [u8], matches: &[u8], radix: usize)
-    requires { ⌜ (length (now matches) ≡ length (now counters)) × ((0 < radix) × (radix ≤ 255))
+// Makes the match bytes of dead lines 0, and adds each match byte to its row's counter mod ρ.
+pub fn count_rows(counters: &mut [u8], lines: &[u8], matches: &mut [u8], radix: usize)
+    requires { ⌜ (length (now matches) ≡ length (now counters)) × (length (now lines) ≡ length (now counters)) × ((0 < radix) × (radix ≤ 255))
         × ((i : ℕ) → i < length (now counters) → getD (now matches) i 0 ≤ 1) ⌝ }
-    ensures { λ _. ⌜ left counters ≡ countedBytes radix (was counters) (was matches) ⌝ }
+    ensures muted { λ _. ⌜ left matches ≡ overwrittenBytes (was lines) 0 (was matches) ⌝ }
+    ensures counted { λ _. ⌜ left counters ≡ countedBytes radix (was counters) (left matches) ⌝ }
 {
     if wide(largest(counters)) < radix {
-        count_below(counters, matches, radix as u8);
+        count_below(counters, lines, matches, radix as u8);
         return;
     }
+    overwrite(lines, matches, 0);
     count_any(counters, matches, radix);
 }
 

@@ -1,4 +1,5 @@
--- `cycle_passes::rows::count_rows` meets its contract: counters of which the largest is below ρ are all below it. Assumes nothing.
+-- `cycle_passes::rows::count_rows` meets its contract: counters of which the largest is below ρ are all below it, and any others count by their
+-- remainders. Assumes nothing.
 use mathlib.Core.Path.{_≡_, _∙_}
 use mathlib.Core.Bool.{true}
 use native.Mathlib.Omega.{arith}
@@ -11,11 +12,11 @@ use Rattle.cycle_passes.proofs.rows.count_rows.Statement.{statement}
 use Rattle.cycle_passes.proofs.rows.count_rows.Tie as tie
 
 -- the place where the largest counter is known, from that where the counters are below ρ, and the call's
-abbrev known : tie.After-count-below-arg → tie.After-largest
-known c = c .before .before .before
+abbrev known : tie.After-count-below-arg2 → tie.After-largest
+known c = c .before .before .before .before
 
 abbrev begun : tie.After-largest → tie.Start
-begun c = c .before .before .before .before
+begun c = c .before .before .before .before .before
 
 largest-requires : tie.Need-largest-requires
 largest-requires c κs = search needs
@@ -32,22 +33,33 @@ count-below-requires c κs =
     let counters = start .args .counters .now in
     let all : every (λ v. ltb v (start .args .radix)) counters ≡ true
     = known c .largest .ensures (start .args .radix) (omega arith) ∙ lt-ltb (known c .largest .result) (start .args .radix) (omega arith) in
-    (omega arith, λ i h. (ltb-true _ _ (every-at (λ v. ltb v (start .args .radix)) counters 0 all i h), start .pre .2 i h))
+    (omega arith, omega arith, λ i h. (ltb-true _ _ (every-at (λ v. ltb v (start .args .radix)) counters 0 all i h), start .pre .3 i h))
 
 same-length : tie.Need-same-length
 same-length c = search needs
 
+same-length-2 : tie.Need-same-length-2
+same-length-2 c = search needs
+
 returns : tie.Need-returns
-returns c = search needs
+returns c = let counted = c .before .before .before .before .count-below .ensures in (counted .0, counted .1)
+
+overwrite-requires : tie.Need-overwrite-requires
+overwrite-requires c κs = search needs
 
 count-any-requires : tie.Need-count-any-requires
 count-any-requires c κs = search needs
 
-same-length-2 : tie.Need-same-length-2
-same-length-2 c = search needs
+same-length-3 : tie.Need-same-length-3
+same-length-3 c = search needs
+
+same-length-4 : tie.Need-same-length-4
+same-length-4 c = search needs
 
 returns-2 : tie.Need-returns-2
-returns-2 c = search needs
+returns-2 c =
+    let counted = c .before .before in
+    (counted .before .before .before .before .before .overwrite .ensures, counted .count-any .ensures)
 
 pub count-rows-spec : {M : Type 1} → statement M
 count-rows-spec =
@@ -58,7 +70,10 @@ count-rows-spec =
     cast-count-below
     count-below-requires
     same-length
-    returns
-    count-any-requires
     same-length-2
+    returns
+    overwrite-requires
+    count-any-requires
+    same-length-3
+    same-length-4
     returns-2)
