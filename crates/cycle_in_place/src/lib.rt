@@ -20,7 +20,8 @@ pub fn step_in_place(
     totals: &mut [u8],
     matches: &mut [u8],
 ) -> Outcome
-    ensures { λ r. ⌜ ((mem : Memory) → stepCall shape (stateOf (withAll (was cells) (was lines) (was counters) (was flags) (was totals) mem) (was cycle)) (was matches)
+    ensures { λ r. ⌜ ((mem : Memory) →
+        stepCall shape (stateOf (withAll (was cells) (was lines) (was counters) (was flags) (was totals) mem) (was cycle)) (was matches)
         ≡ giving (outcomeSays r) (left matches) (stateOf (withAll (was cells) (was lines) (left counters) (left flags) (left totals) mem) (left cycle))) ⌝ }
 {
     let before = *cycle;
