@@ -1,15 +1,16 @@
--- `step_in_place` meets its contract: a walk of its MIR by hand, since the borrow checker does not cover a `&mut` of a struct. The borrow of the record is opened
--- and the record copied out and handed to the covered `step` with all the other arguments; the record that `step` returned is stored, the borrow closed at it,
--- and the answer returned. All that the proof knows of `step` is that it meets its contract, and no line names a field or a variant of the record.
+-- `step_in_place` meets its contract: a walk of its MIR by hand, since the borrow checker does not cover a `&mut` of a struct. The borrow of the record is
+-- opened and the record copied out and handed to the covered `step` with all the other arguments; the record that `step` returned is stored, the borrow
+-- closed at it, and the answer returned. All that the proof knows of `step` is that it meets its contract, and no line names a field or a variant of the
+-- record.
 --
 -- Both functions take the same parameters in the same order, the record first. So all but the record passes through unopened: the tokens of the lifetimes after
 -- the first (`Alive`), what the types of the other parameters own (`owns Others`), and what `step` ensures (`Says`) are one entry of the context each.
 -- The sections are 1 the parameters, 2 the call, 3 the end, 4 the walk, 5 from the walk to the statement. What follows from what:
 --     step's parameters    1 and 5 have an entry for each, and 3 one for each `&mut` slice
 --     step's contract      `claims` in 3: the two contracts are the same equation. A `requires` would be shown in `goes` in 2
---     the code             4 has a line for each statement that `rt mir cycle_in_place` prints. Which local a statement is about is read off the code (`Rules`),
---                          and where that local stands in the context follows from `last` (`at`), so a further parameter at the end adds entries and lines,
---                          and renumbers none
+--     the code             4 has a line for each statement that `rt mir cycle_in_place` prints. Which local a statement is about is read off the code
+--                          (`Rules`), and where that local stands in the context follows from `last` (`at`), so a further parameter at the end adds
+--                          entries and lines, and renumbers none
 -- Assumes nothing.
 mod Rules
 use mathlib.Core.Path.{_≡_, refl, ap, subst}
@@ -30,7 +31,8 @@ use ghost.Atoms.{Atoms, sem}
 use contract.Monad.{Fun}
 use contract.Running.{givenOf, tables, tablesOf}
 use contract.Lifetimes.{Lfts, Shares}
-use types.Kit.{Given, Item, ‵, raw, given, some, later, _⊛_, ⋆, _$_, _∵_, !, qed, by, move, drop, use1, use2, split, join, pick, learn, fsplit, fsplit3, fjoin, fjoin3, feqL, feqI, suffices, check, frame, await, done}
+use types.Kit.{Given, Item, ‵, raw, given, some, later, _⊛_, ⋆, _$_, _∵_, ! }
+use types.Kit.{qed, by, move, drop, use1, use2, split, join, pick, learn, fsplit, fsplit3, fjoin, fjoin3, feqL, feqI, suffices, check, frame, await, done}
 use types.Run.{look, look-raw, init, store-raw, load, of-opd, and-then, no-more, assigns, returns, enter, alloc1, alloc0, params1, pass1, pass0, free0}
 use types.Part.{agg, whole, sub}
 use types.SemTy.{Body}
@@ -86,7 +88,8 @@ lifetimes = 7
 abbrev last : ℕ
 last = 19
 
--- Each local has two entries in the context, its cell and what frees it, the last local's first. Where k entries stand before them all, the local i stands here.
+-- Each local has two entries in the context, its cell and what frees it, the last local's first. Where k entries stand before them all, the local i stands
+-- here.
 abbrev at : ℕ → ℕ → ℕ
 at k i = k + 2 * (last - i)
 
@@ -129,12 +132,14 @@ stayed = (
 abbrev Step : {M : Type 1} (𝓤 : URA M) (H : Heap 𝓤) (A : Atoms 𝓤) (mem : Memory → SProp 𝓤) (run : Routine → Fun 𝓤) → Contract 𝓤
 Step 𝓤 H A mem run = tripleOf 𝓤 H A step.signature (step.spec 𝓤 H A mem run)
 
--- The record's reference is the pointer (b, o), of the lifetime κ, to the record h. κs and qs are the lifetimes of the other references with their shares, as step has them.
-module _ {M : Type 1} (𝓤 : URA M) (H : Heap 𝓤) (A : Atoms 𝓤) (W : Given 𝓤 H A) (at-mem : Memory → SProp 𝓤) (run : Routine → Fun 𝓤) (κ : Lft) (κs : Lfts 6) (q : Share) (qs : Shares 6)
-    (b o : ℕ) (γ : GName) (h : Cycle) (shape : Shape) (cells lines counters flags totals matches : RefT (List ℕ)) where
+-- The record's reference is the pointer (b, o), of the lifetime κ, to the record h. κs and qs are the lifetimes of the other references with their shares,
+-- as step has them.
+module _ {M : Type 1} (𝓤 : URA M) (H : Heap 𝓤) (A : Atoms 𝓤) (W : Given 𝓤 H A) (at-mem : Memory → SProp 𝓤) (run : Routine → Fun 𝓤) (κ : Lft) (κs : Lfts 6)
+    (q : Share) (qs : Shares 6) (b o : ℕ) (γ : GName) (h : Cycle) (shape : Shape) (cells lines counters flags totals matches : RefT (List ℕ)) where
   -- the parameters after the record: types, values and machine values
   abbrev Others : List RattleType
-  Others = S.the-row ∷ ShrSlice (named 1) (κs .0) u8 ∷ ShrSlice (named 2) (κs .1 .0) u8 ∷ MutSlice (named 3) (κs .1 .1 .0) u8 ∷ MutSlice (named 4) (κs .1 .1 .1 .0) u8
+  Others = S.the-row ∷ ShrSlice (named 1) (κs .0) u8 ∷ ShrSlice (named 2) (κs .1 .0) u8 ∷ MutSlice (named 3) (κs .1 .1 .0) u8
+      ∷ MutSlice (named 4) (κs .1 .1 .1 .0) u8
       ∷ MutSlice (named 5) (κs .1 .1 .1 .1 .0) u8 ∷ MutSlice (named 6) (κs .1 .1 .1 .1 .1 .0) u8 ∷ []
 
   abbrev Args : Type 0
@@ -147,8 +152,13 @@ module _ {M : Type 1} (𝓤 : URA M) (H : Heap 𝓤) (A : Atoms 𝓤) (W : Given
   Vals = List Val × (List Val × (List Val × (List Val × (List Val × (List Val × (List Val × Unit {0}))))))
 
   abbrev vals : Vals
-  vals =
-      (shape-val shape ∷ [], (slice-val cells ∷ [], (slice-val lines ∷ [], (slice-val counters ∷ [], (slice-val flags ∷ [], (slice-val totals ∷ [], (slice-val matches ∷ [], tt)))))))
+  vals = (
+    shape-val shape ∷ [],
+    (
+      slice-val cells ∷ [],
+      (slice-val lines ∷ [], (slice-val counters ∷ [], (slice-val flags ∷ [], (slice-val totals ∷ [], (slice-val matches ∷ [], tt))))),
+    ),
+  )
 
   abbrev passed : List Val
   passed = vptr b o ∷ shape-val shape ∷ slice-val cells ∷ slice-val lines ∷ slice-val counters ∷ slice-val flags ∷ slice-val totals ∷ slice-val matches ∷ []
@@ -257,16 +267,20 @@ module _ {M : Type 1} (𝓤 : URA M) (H : Heap 𝓤) (A : Atoms 𝓤) (W : Given
 
   -- what the walk has in hand when the locals are freed: the closed borrow, at the new record; the tokens; the last lists; and what step says
   abbrev in-hand : Changed → Last → List (Item 𝓤)
-  in-hand r zs = ‵ (fobs γ (R.the-row .coded .code (r .cycle))) ∷ ‵ (fbor κ (Body (mem R.the-row) b o γ)) ∷ ‵ (flft κ q) ∷ raw Alive ∷ ‵ (lists zs) ∷ raw (Says r zs) ∷ []
+  in-hand r zs = ‵ (fobs γ (R.the-row .coded .code (r .cycle))) ∷ ‵ (fbor κ (Body (mem R.the-row) b o γ)) ∷ ‵ (flft κ q) ∷ raw Alive
+      ∷ ‵ (lists zs) ∷ raw (Says r zs) ∷ []
 
-  exits : (r : Changed) (zs : Last) → Lengths zs → Is O.the-row (r .outcome) (outcome-val (r .outcome) ∷ []) → ent 𝓤 (⋆ 𝓤 H A (in-hand r zs)) (Post (outcome-val (r .outcome)))
+  exits : (r : Changed) (zs : Last) → Lengths zs → Is O.the-row (r .outcome) (outcome-val (r .outcome) ∷ [])
+      → ent 𝓤 (⋆ 𝓤 H A (in-hand r zs)) (Post (outcome-val (r .outcome)))
   exits r zs n is =
       qed W (in-hand r zs) ∵
-      suffices ! _ (ends-at 𝓤 H A in-place.ended stayed (in-place.clauses 𝓤 H A at-mem run) W (((κ, κs), (q, qs), tt, mine, my-vals), tt) (outcome-val (r .outcome)) (r .outcome) (ended r zs) (tt, (tt, (tt, (tt, (n .0, (n .1 .0, (n .1 .1 .0, (n .1 .1 .1, tt))))))))) $
+      suffices ! _ (ends-at 𝓤 H A in-place.ended stayed (in-place.clauses 𝓤 H A at-mem run) W (((κ, κs), (q, qs), tt, mine, my-vals), tt)
+      (outcome-val (r .outcome)) (r .outcome) (ended r zs) (tt, (tt, (tt, (tt, (n .0, (n .1 .0, (n .1 .1 .0, (n .1 .1 .1, tt))))))))) $
       -- the record's reference and the last lists are what is had of the parameters
       feqI ! (List Val) (vptr b o ∷ []) (vptr b o ∷ []) refl $ fjoin3 ! $ move ! (0 ∷ 3 ∷ []) $ fjoin ! $
       -- beside the result and the tokens
-      owned ! O.the-row (Is O.the-row) (EL.makes O.the-type O′.the-plain 𝓤 H A) (r .outcome) _ is $ move ! (1 ∷ 0 ∷ []) $ join ! $ move ! (1 ∷ 2 ∷ []) $ join ! $ join ! $
+      owned ! O.the-row (Is O.the-row) (EL.makes O.the-type O′.the-plain 𝓤 H A) (r .outcome) _ is $ move ! (1 ∷ 0 ∷ []) $ join ! $ move ! (1 ∷ 2 ∷ []) $
+      join ! $ join ! $
       move ! (1 ∷ []) $ use1 W (raw (Claims r zs)) (claims r zs) $ move ! (1 ∷ 0 ∷ []) $ done !
 
   -- ---- 4. the walk, statement by statement. A line in [ ] says what the context is: `locals` stands for all the locals' entries, two for each
@@ -292,28 +306,35 @@ module _ {M : Type 1} (𝓤 : URA M) (H : Heap 𝓤) (A : Atoms 𝓤) (W : Given
         -- [locals; the tokens; what the parameters own]
         -- the borrow of the record is opened
         move ! (at 3 0 ∷ []) $ fsplit ! $ fsplit3 ! $ drop ! $ move ! (at 5 0 ∷ []) $ split ! $ move ! (2 ∷ 3 ∷ 0 ∷ []) $
-        opens ! tt R.the-row {h = h} b o (λ vs. spelt ! R.the-row (Is R.the-row) (shows 𝓤 H A R.the-row) (LL.vals R.the-type R′.the-laws) (LL.tells R.the-type R′.the-laws) fullShare h vs b o $
+        opens ! tt R.the-row {h = h} b o (λ vs. spelt ! R.the-row (Is R.the-row) (shows 𝓤 H A R.the-row) (LL.vals R.the-type R′.the-laws)
+        (LL.tells R.the-type R′.the-laws) fullShare h vs b o $
         move ! (1 ∷ []) $ peeks ! R.the-row (Is R.the-row) (shows 𝓤 H A R.the-row) h (record-val h ∷ []) (λ is-h. move ! (1 ∷ 0 ∷ []) $
         -- [the record's cell; what the record owns; the open borrow, in three; the other tokens; what the others own; locals]
         -- let before = *cycle;
         sets ! (at 7) (of-opd ! (load ! (pointed ! (at 7) refl) (look-raw ! 0 refl))) refl (LL.lawful R.the-type R′.the-laws 𝓤 H A W .typed h _ is-h .0) $
         -- counters, flags, totals and matches are lent on: the address of the first byte, and the address with the count
         sets ! (at 7) (element ! (at 7) refl (sub ! 0 refl (whole !))) refl (tt, tt) $
-        sets ! (at 7) (agg ! (and-then ! (copied ! (at 7) refl) (and-then ! (part ! (at 7) refl (sub ! 1 refl (whole !))) (no-more !)))) refl (tt, (tt, (record { fits = room₅ .0 }, tt))) $
+        sets ! (at 7) (agg ! (and-then ! (copied ! (at 7) refl) (and-then ! (part ! (at 7) refl (sub ! 1 refl (whole !))) (no-more !)))) refl
+        (tt, (tt, (record { fits = room₅ .0 }, tt))) $
         sets ! (at 7) (element ! (at 7) refl (sub ! 0 refl (whole !))) refl (tt, tt) $
-        sets ! (at 7) (agg ! (and-then ! (copied ! (at 7) refl) (and-then ! (part ! (at 7) refl (sub ! 1 refl (whole !))) (no-more !)))) refl (tt, (tt, (record { fits = room₆ .0 }, tt))) $
+        sets ! (at 7) (agg ! (and-then ! (copied ! (at 7) refl) (and-then ! (part ! (at 7) refl (sub ! 1 refl (whole !))) (no-more !)))) refl
+        (tt, (tt, (record { fits = room₆ .0 }, tt))) $
         sets ! (at 7) (element ! (at 7) refl (sub ! 0 refl (whole !))) refl (tt, tt) $
-        sets ! (at 7) (agg ! (and-then ! (copied ! (at 7) refl) (and-then ! (part ! (at 7) refl (sub ! 1 refl (whole !))) (no-more !)))) refl (tt, (tt, (record { fits = room₇ .0 }, tt))) $
+        sets ! (at 7) (agg ! (and-then ! (copied ! (at 7) refl) (and-then ! (part ! (at 7) refl (sub ! 1 refl (whole !))) (no-more !)))) refl
+        (tt, (tt, (record { fits = room₇ .0 }, tt))) $
         sets ! (at 7) (element ! (at 7) refl (sub ! 0 refl (whole !))) refl (tt, tt) $
-        sets ! (at 7) (agg ! (and-then ! (copied ! (at 7) refl) (and-then ! (part ! (at 7) refl (sub ! 1 refl (whole !))) (no-more !)))) refl (tt, (tt, (record { fits = room₈ .0 }, tt))) $
+        sets ! (at 7) (agg ! (and-then ! (copied ! (at 7) refl) (and-then ! (part ! (at 7) refl (sub ! 1 refl (whole !))) (no-more !)))) refl
+        (tt, (tt, (record { fits = room₈ .0 }, tt))) $
         -- let stepped = before.step(shape, cells, lines, counters, flags, totals, matches);
         move ! (1 ∷ 6 ∷ []) $ fjoin ! $ move ! (5 ∷ 0 ∷ []) $ use2 W (raw (Step 𝓤 H A at-mem run .pre to-step)) goes $
         -- [what step asks; the record's cell; the open borrow, in three; locals]
         calls-at ! fm (Step 𝓤 H A at-mem run) known to-step
-        (and-then ! (copied ! (at 5) refl) (and-then ! (copied ! (at 5) refl) (and-then ! (copied ! (at 5) refl) (and-then ! (copied ! (at 5) refl) (and-then ! (copied ! (at 5) refl)
+        (and-then ! (copied ! (at 5) refl) (and-then ! (copied ! (at 5) refl)
+        (and-then ! (copied ! (at 5) refl) (and-then ! (copied ! (at 5) refl) (and-then ! (copied ! (at 5) refl)
         (and-then ! (copied ! (at 5) refl) (and-then ! (copied ! (at 5) refl) (and-then ! (copied ! (at 5) refl) (no-more !))))))))) (λ w.
         -- its result r and the last lists zs, at its machine value w
-        use1 W (later (some (λ (r : Changed). (raw Alive ⊛ ‵ (D.the-row .own r (w ∷ []))) ⊛ raw (ensured 𝓤 H A step.ended (step.clauses 𝓤 H A at-mem run) κs its tt r)))) (id⊢ 𝓤 _) $ await ! tt $ pick ! (λ r.
+        use1 W (later (some (λ (r : Changed). (raw Alive ⊛ ‵ (D.the-row .own r (w ∷ [])))
+        ⊛ raw (ensured 𝓤 H A step.ended (step.clauses 𝓤 H A at-mem run) κs its tt r)))) (id⊢ 𝓤 _) $ await ! tt $ pick ! (λ r.
         split ! $ move ! (1 ∷ []) $ use1 W (some (λ (zs : Last). ‵ (lasts step.ended κs its zs) ⊛ raw (Says r zs))) (id⊢ 𝓤 _) $ pick ! (λ zs. split ! $
         use1 W (given (Lengths zs) (‵ (lists zs))) (last-lists zs) $ learn ! (λ n.
         move ! (2 ∷ []) $ split ! $ move ! (1 ∷ []) $ facts ! D.the-row (Is D.the-row) (shows 𝓤 H A D.the-row) r (w ∷ []) (λ is.
@@ -326,20 +347,24 @@ module _ {M : Type 1} (𝓤 : URA M) (H : Heap 𝓤) (A : Atoms 𝓤) (W : Given
         -- stepped.outcome; what is returned is the answer of step's result
         sets ! (at 7) (of-opd ! (being ! (outcome-val (r .outcome)) (part ! (at 7) refl (sub ! 0 refl (whole !))) refl)) refl (outcome-typed r w is) $
         -- the borrow is closed at the new record
-        owned ! R.the-row (Is R.the-row) (LL.makes R.the-type R′.the-plain 𝓤 H A) (r .cycle) _ (is-record r w is) $ move ! (4 ∷ 0 ∷ 5 ∷ 6 ∷ 7 ∷ []) $ closes ! tt R.the-row (r .cycle) (record-val (r .cycle) ∷ []) b o $
+        owned ! R.the-row (Is R.the-row) (LL.makes R.the-type R′.the-plain 𝓤 H A) (r .cycle) _ (is-record r w is) $ move ! (4 ∷ 0 ∷ 5 ∷ 6 ∷ 7 ∷ []) $
+        closes ! tt R.the-row (r .cycle) (record-val (r .cycle) ∷ []) b o $
         -- [what is in hand, six entries; locals]
         returns ! (look ! (at 6 0) refl) $
-        gone ! (at 6 0) refl refl $ gone ! (at 6 1) refl refl $ gone ! (at 6 2) refl refl $ gone ! (at 6 3) refl refl $ gone ! (at 6 4) refl refl $ gone ! (at 6 5) refl refl $
-        gone ! (at 6 6) refl refl $ gone ! (at 6 7) refl refl $ gone ! (at 6 8) refl refl $ gone ! (at 6 9) refl refl $ gone ! (at 6 10) refl refl $ gone ! (at 6 11) refl refl $
-        gone ! (at 6 12) refl refl $ gone ! (at 6 13) refl refl $ gone ! (at 6 14) refl refl $ gone ! (at 6 15) refl refl $ gone ! (at 6 16) refl refl $ gone ! (at 6 17) refl refl $
+        gone ! (at 6 0) refl refl $ gone ! (at 6 1) refl refl $ gone ! (at 6 2) refl refl $ gone ! (at 6 3) refl refl $ gone ! (at 6 4) refl refl $
+        gone ! (at 6 5) refl refl $ gone ! (at 6 6) refl refl $ gone ! (at 6 7) refl refl $ gone ! (at 6 8) refl refl $ gone ! (at 6 9) refl refl $
+        gone ! (at 6 10) refl refl $ gone ! (at 6 11) refl refl $ gone ! (at 6 12) refl refl $ gone ! (at 6 13) refl refl $ gone ! (at 6 14) refl refl $
+        gone ! (at 6 15) refl refl $ gone ! (at 6 16) refl refl $ gone ! (at 6 17) refl refl $
         gone ! (at 6 18) refl refl $ gone ! (at 6 19) refl refl $ free0 ! $
         by ! (exits r zs n (is-outcome r w is)))))))))))))))))))))))))))))
 
 -- ---- 5. from the walk to the statement
 
 module _ {M : Type 1} (𝓤 : URA M) (H : Heap 𝓤) (A : Atoms 𝓤) (W : Given 𝓤 H A) (mem : Memory → SProp 𝓤) (run : Routine → Fun 𝓤) where
-  -- the walk at each choice of lifetimes, shares and arguments: how each parameter's machine value is spelled, that its type tells it, and what the types show of the arguments
-  walks : (C : Calls 𝓤 H) (Λ : Loops 𝓤 H) → FmC 𝓤 H (W .laws) C → Triple 𝓤 (C #step) (Step 𝓤 H A mem run) → Walks 𝓤 H A in-place.ended stayed (WpFn 𝓤 H C Λ code.function) (in-place.clauses 𝓤 H A mem run)
+  -- the walk at each choice of lifetimes, shares and arguments: how each parameter's machine value is spelled, that its type tells it, and what the types
+  -- show of the arguments
+  walks : (C : Calls 𝓤 H) (Λ : Loops 𝓤 H) → FmC 𝓤 H (W .laws) C → Triple 𝓤 (C #step) (Step 𝓤 H A mem run)
+      → Walks 𝓤 H A in-place.ended stayed (WpFn 𝓤 H C Λ code.function) (in-place.clauses 𝓤 H A mem run)
   walks C Λ fm known =
       walked 𝓤 H A in-place.ended stayed (in-place.clauses 𝓤 H A mem run) (WpFn 𝓤 H C Λ code.function)
       (λ κs. (ptr-vals, (LL.vals S.the-type S′.the-laws, (slice-vals, (slice-vals, (slice-vals, (slice-vals, (slice-vals, (slice-vals, tt)))))))))
@@ -388,7 +413,8 @@ module _ {M : Type 1} (𝓤 : URA M) (H : Heap 𝓤) (A : Atoms 𝓤) (W : Given
   )
 
 -- The rest is the same for every such function but for its names.
-meets : {M : Type 1} (𝓤 : URA M) (H : Heap 𝓤) (A : Atoms 𝓤) → Given 𝓤 H A → (mem : Memory → SProp 𝓤) (run : Routine → Fun 𝓤) (𝓣 : Tables 𝓤 H) → Triple 𝓤 (𝓣 .C #step) (Step 𝓤 H A mem run)
+meets : {M : Type 1} (𝓤 : URA M) (H : Heap 𝓤) (A : Atoms 𝓤) → Given 𝓤 H A → (mem : Memory → SProp 𝓤) (run : Routine → Fun 𝓤) (𝓣 : Tables 𝓤 H)
+    → Triple 𝓤 (𝓣 .C #step) (Step 𝓤 H A mem run)
     → Meets 𝓤 H A in-place.signature (WpFn 𝓤 H (𝓣 .C) (𝓣 .Λ) code.function) (in-place.spec 𝓤 H A mem run)
 meets 𝓤 H A W mem run 𝓣 known =
     walk-meets 𝓤 H A in-place.ended stayed W (all-go 𝓤 H A W mem run) (in-place.clauses 𝓤 H A mem run)

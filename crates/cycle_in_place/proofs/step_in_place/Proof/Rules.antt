@@ -1,5 +1,5 @@
--- Rules for the walk of `step_in_place`, beside those of `types.Run`. A local's cell, or its room, stands in the context at a position that is a function p of the local's number,
--- and the number is read off the code. So a line of the walk says what a statement does, and not which local it does it to.
+-- Rules for the walk of `step_in_place`, beside those of `types.Run`. A local's cell, or its room, stands in the context at a position that is a function
+-- p of the local's number, and the number is read off the code. So a line of the walk says what a statement does, and not which local it does it to.
 --     copied, part     a local is read; a field of one is
 --     pointed          the place behind a local that is a pointer.        element      the address of a slice's first element
 --     being            what is read is x. That is an equation, which the walk shows
@@ -46,7 +46,8 @@ module _ {M : Type 1} {𝓤 : URA M} {H : Heap 𝓤} {A : Atoms 𝓤} {K : Type 
   copied t p {i} e = load t (from t (stop t)) (look t (p i) e)
 
   pub part : K → (p : ℕ → ℕ) {i k : ℕ} {q : Share} {τ : Ty} {d : ℕ} {v : Val} {back : Val → Item 𝓤}
-      → fieldOf (spotOf 𝓤 H E i .0) k ≡ some (τ, d) → Part K W (nth 𝓤 H A (p i) Γ) q τ (spotOf 𝓤 H E i .1) (zero + d) v back → Opd K W Γ E (copy (place i (field k ∷ []))) v
+      → fieldOf (spotOf 𝓤 H E i .0) k ≡ some (τ, d) → Part K W (nth 𝓤 H A (p i) Γ) q τ (spotOf 𝓤 H E i .1) (zero + d) v back
+      → Opd K W Γ E (copy (place i (field k ∷ []))) v
   part t p {i} e within = load t (from t (fld t e (stop t))) (look-in t (p i) within)
 
   pub pointed : K → (p : ℕ → ℕ) {i : ℕ} {q : Share} {τ : Ty} {b o : ℕ} → Holding 𝓤 H A Γ E p i q (vptr b o) → Finds K W Γ E (place i (deref τ ∷ [])) (τ, b, o)
@@ -69,7 +70,8 @@ module _ {M : Type 1} {𝓤 : URA M} {H : Heap 𝓤} {A : Atoms 𝓤} {K : Type 
     pub lands-in : K → (p : ℕ → ℕ) (x : Val) {i : ℕ} {r : Val} {rest : Body} → r ≡ x → Empty 𝓤 H A Γ E p i → Typed 𝓤 H A Γ E p i x
         → Step K W (filled 𝓤 H A Γ E p i x) (runs C Λ E rest q) Γ (lands C Λ E (place i []) r rest q)
     lands-in t p x {i} {r} {rest} is-x e typed =
-        subst (λ (u : Val). Step K W (filled 𝓤 H A Γ E p i x) (runs C Λ E rest q) Γ (lands C Λ E (place i []) u rest q)) (sym is-x) (land t (from t (stop t)) (init t (p i) e typed))
+        subst (λ (u : Val). Step K W (filled 𝓤 H A Γ E p i x) (runs C Λ E rest q) Γ (lands C Λ E (place i []) u rest q)) (sym is-x)
+        (land t (from t (stop t)) (init t (p i) e typed))
 
   pub gone : K → (n : ℕ) {τ : Ty} {b : ℕ} {g : Goal 𝓤 H} {v : Val} → nth 𝓤 H A n Γ ≡ ‵ (fat fullShare τ b zero v) → nth 𝓤 H A n (del 𝓤 H A n Γ) ≡ ‵ (fdies τ b)
       → Step K W (del 𝓤 H A n (del 𝓤 H A n Γ)) (frees E g) Γ (frees ((τ, b) ∷ E) g)
@@ -77,9 +79,11 @@ module _ {M : Type 1} {𝓤 : URA M} {H : Heap 𝓤} {A : Atoms 𝓤} {K : Type 
       let Δ : List (Item 𝓤) = del 𝓤 H A n Γ in
       step (λ s. record {
         prf =
-            via 𝓤 (sep 𝓤 (H .at fullShare τ b zero v) (⋆ 𝓤 H A Δ)) (subst (λ (j : Item 𝓤). ent 𝓤 (⋆ 𝓤 H A Γ) (sep 𝓤 (mean 𝓤 H A j) (⋆ 𝓤 H A Δ))) cell (pull 𝓤 H A n Γ))
+            via 𝓤 (sep 𝓤 (H .at fullShare τ b zero v) (⋆ 𝓤 H A Δ))
+            (subst (λ (j : Item 𝓤). ent 𝓤 (⋆ 𝓤 H A Γ) (sep 𝓤 (mean 𝓤 H A j) (⋆ 𝓤 H A Δ))) cell (pull 𝓤 H A n Γ))
             (via 𝓤 (⋆ 𝓤 H A (‵ (froom τ b zero) ∷ ‵ (fdies τ b) ∷ del 𝓤 H A n Δ))
             (mono∗ 𝓤 (W .laws .at-room τ b zero v) (via 𝓤 (sep 𝓤 (H .dies τ b) (⋆ 𝓤 H A (del 𝓤 H A n Δ)))
-            (subst (λ (j : Item 𝓤). ent 𝓤 (⋆ 𝓤 H A Δ) (sep 𝓤 (mean 𝓤 H A j) (⋆ 𝓤 H A (del 𝓤 H A n Δ)))) end (pull 𝓤 H A n Δ)) (push 𝓤 H A (‵ (fdies τ b)) (del 𝓤 H A n Δ))))
+            (subst (λ (j : Item 𝓤). ent 𝓤 (⋆ 𝓤 H A Δ) (sep 𝓤 (mean 𝓤 H A j) (⋆ 𝓤 H A (del 𝓤 H A n Δ)))) end (pull 𝓤 H A n Δ))
+            (push 𝓤 H A (‵ (fdies τ b)) (del 𝓤 H A n Δ))))
             ((free1 t $ s) .prf));
       })
