@@ -8,7 +8,7 @@
 // - each pointer is valid for the length that is given with it, for reading, and for writing where it is not const,
 //   also where the length is 0;
 // - no two buffers of one call overlap, nor does the record or an answer lie in a buffer;
-// - the record and the pointers for answers (count, found, holds, total, first, read) are writable and aligned.
+// - the record and the pointers for answers (changed, count, found, holds, total, first, read) are writable and aligned.
 #ifndef JORIVELUNE_H
 #define JORIVELUNE_H
 
@@ -62,6 +62,12 @@ uint8_t jorivelune_program(size_t record[JORIVELUNE_WORDS], struct jorivelune_sh
                            uint8_t *cells, size_t cells_length,
                            size_t row, const uint8_t *levels, size_t levels_length);
 
+// Writes a finished row of n cells, as jorivelune_ask gives it. Any bytes may be given: question 8 refuses one of q or more,
+// and then question 17 a row that is not sound. It leaves what programming the first k of them leaves.
+uint8_t jorivelune_commit(size_t record[JORIVELUNE_WORDS], struct jorivelune_shape shape,
+                          uint8_t *cells, size_t cells_length,
+                          size_t row, const uint8_t *finished, size_t finished_length);
+
 // Skip is the number of low digits that the cycle skips: 0 for the whole cycle, below b for a coarse one, which sees
 // only what differs above them. Any number may be given: question 15 refuses b and more.
 uint8_t jorivelune_start(size_t record[JORIVELUNE_WORDS], struct jorivelune_shape shape, size_t skip,
@@ -109,8 +115,11 @@ uint8_t jorivelune_drift(struct jorivelune_shape shape, uint8_t *cells, size_t c
 uint8_t jorivelune_read(struct jorivelune_shape shape, const uint8_t *cells, size_t cells_length,
                         size_t row, uint8_t *out, size_t out_length);
 
-// The check cells of one row of n cells from its first k.
-uint8_t jorivelune_encode(struct jorivelune_shape shape, uint8_t *row, size_t row_length);
+// The finished row of n cells that programming these levels would write goes to finished, and the number of its cells that
+// differ from the row as it stands to changed, 0 where the call is refused. Array and record stay, also where a cycle is open.
+uint8_t jorivelune_ask(struct jorivelune_shape shape, const uint8_t *cells, size_t cells_length,
+                       size_t row, const uint8_t *levels, size_t levels_length,
+                       uint8_t *finished, size_t finished_length, size_t *changed);
 
 // The number of matches goes to count, 0 where the call is refused.
 uint8_t jorivelune_lookup(struct jorivelune_shape shape, const uint8_t *cells, size_t cells_length,

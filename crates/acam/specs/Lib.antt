@@ -1,4 +1,3 @@
--- The check matrix as the code has it, what encoding one row gives, and what the code adds up.
+-- The check matrix as the code has it, and what the code adds up.
 pub mod Matrices
-pub mod Rows
 pub mod Digits

@@ -1,16 +1,11 @@
 // The encoder: the check cells of a row from its rule cells.
 use super::matrix::fill_rules;
-use super::sound::all_below;
 use super::sums::floor_sums;
 use super::sums::missing;
 use parity::Shape;
-use shape::answer::Outcome;
 use shape::byte::fill;
 use shape::byte::wide;
-use shape::sizes::Checked;
-use shape::sizes::check_shape;
 ghost use mathlib.Core.Path.{_≡_};
-ghost use mathlib.Core.List.{[]};
 ghost use Prim.Native.Nat.{ℕ, _≤_, _<_};
 ghost use lib.ListN.{length, take};
 ghost use Rattle.parity.specs.Lists.{tabulate};
@@ -19,8 +14,6 @@ ghost use Rattle.parity.specs.Matrix.{ruleColumns};
 ghost use Rattle.parity.specs.Codeword.{encode};
 ghost use Rattle.parity.specs.Questions.{Taken};
 ghost use Rattle.acam.specs.Digits.{completed};
-ghost use Rattle.acam.specs.Rows.{encodeCall};
-ghost use Rattle.shape.specs.Answers.{outcomeSays, giving};
 ghost use Rattle.shape.specs.Lent.{was, left};
 
 // One more digit in each check cell: what brings its check row's sum to 0 mod ρ, at ρ^s = power.
@@ -66,27 +59,4 @@ pub fn write_checks(shape: Shape, checks: usize, row: &mut [u8])
     let mut rules = [0u8; 255];
     fill_rules(&mut rules[..width], errors, checks);
     write_digits(shape, row, &rules[..width]);
-}
-
-// Writes the check cells of a row of n cells from its first k.
-pub fn encode_row(shape: Shape, row: &mut [u8]) -> Outcome
-    ensures { λ r. ⌜ encodeCall shape (was row) ≡ giving (outcomeSays r) [] (left row) ⌝ }
-{
-    match check_shape(shape) {
-        Checked::Refused(number) => Outcome::Refused(number),
-        Checked::Taken(sizes) => {
-            let levels = sizes.levels;
-            let checks = sizes.checks;
-            let columns = sizes.columns;
-            let width = shape.width;
-            if row.len() != columns {
-                return Outcome::Refused(6);
-            }
-            if !all_below(&row[..width], levels) {
-                return Outcome::Refused(8);
-            }
-            write_checks(shape, checks, row);
-            Outcome::Done
-        }
-    }
 }

@@ -5,6 +5,7 @@ use parity::Shape;
 use shape::byte::largest;
 use shape::byte::wide;
 ghost use mathlib.Core.Path.{_≡_};
+ghost use mathlib.Core.Bool.{true};
 ghost use Prim.Native.Nat.{_%_, _≤_, _<_};
 ghost use lib.Dec.{eqb, ltb};
 ghost use lib.ListN.{length, getD};
@@ -40,17 +41,14 @@ fn all_balanced(sums: [u16; 8], checks: usize, radix: usize) -> bool
     true
 }
 
-// Whether a row of n bytes, any bytes, is sound.
-pub fn is_sound(shape: Shape, checks: usize, levels: usize, row: &[u8], matrix: &[u8; 255]) -> bool
-    requires { ⌜ Taken shape × (checks ≡ checksOf shape) × (levels ≡ levelsOf shape) ⌝ }
+// Whether a row of n levels, all below q, is sound.
+pub fn is_balanced(shape: Shape, checks: usize, row: &[u8], matrix: &[u8; 255]) -> bool
+    requires { ⌜ Taken shape × (checks ≡ checksOf shape) × (every (λ v. ltb v (levelsOf shape)) (now row) ≡ true) ⌝ }
     requires { ⌜ (length (now row) ≡ columnsOf shape) × (now matrix ≡ matrixArray shape) ⌝ }
     ensures { λ r. ⌜ r ≡ isCodeword shape (was row) ⌝ }
 {
     let radix = shape.radix;
     let digits = shape.digits;
-    if !all_below(row, levels) {
-        return false;
-    }
     let mut power: usize = 1;
     let mut s: usize = 0;
     while s < digits {
@@ -62,4 +60,16 @@ pub fn is_sound(shape: Shape, checks: usize, levels: usize, row: &[u8], matrix: 
         s += 1;
     }
     true
+}
+
+// Whether a row of n bytes, any bytes, is sound.
+pub fn is_sound(shape: Shape, checks: usize, levels: usize, row: &[u8], matrix: &[u8; 255]) -> bool
+    requires { ⌜ Taken shape × (checks ≡ checksOf shape) × (levels ≡ levelsOf shape) ⌝ }
+    requires { ⌜ (length (now row) ≡ columnsOf shape) × (now matrix ≡ matrixArray shape) ⌝ }
+    ensures { λ r. ⌜ r ≡ isCodeword shape (was row) ⌝ }
+{
+    if !all_below(row, levels) {
+        return false;
+    }
+    is_balanced(shape, checks, row, matrix)
 }

@@ -1,9 +1,10 @@
--- The calls that have no cycle record and no inputs, document 01's and the line call of document 02's Card 4, each as one definition, taken or
--- refused; and what programming does to the memory.
+-- The calls that have no cycle record and no inputs, document 01's, the line call of document 02's Card 4 and the ask of its Card 5, each as one
+-- definition, taken or refused; and what programming and commit do to the memory.
 use mathlib.Core.Bool.{Bool, false}
 use mathlib.Core.List.{List, [], _∷_}
 use Prim.Native.Nat.{ℕ, _+_, _*_}
 use lib.ListN.{length, take, set}
+use Rattle.parity.specs.Lists.{differences}
 use Rattle.parity.specs.Shape.{columns}
 use Rattle.parity.specs.Codeword.{isCodeword, encode}
 use Rattle.parity.specs.Questions.{firstNo, placeQuestion}
@@ -11,7 +12,7 @@ use Rattle.parity.specs.declared.Shape.{Shape}
 use Rattle.shape.specs.Answers.{Said, Result, accepted, answering, giving, calling}
 use Rattle.array_memory.specs.Geometry.{rowAt, withRow}
 use Rattle.array_memory.specs.Memory.{Memory, withCells, withLines}
-use Rattle.array_memory.specs.Questions.{cellsQuestions, driftArguments, rowArguments, lineQuestions}
+use Rattle.array_memory.specs.Questions.{cellsQuestions, driftArguments, rowArguments, lineQuestions, askArguments}
 
 -- ---- drift
 
@@ -33,11 +34,20 @@ lineSet mem row byte = withLines (set (mem .lines) row byte) mem
 unfoldable pub lineCall : Shape → Memory → ℕ → ℕ → Result Memory
 lineCall s mem row byte = calling (lineQuestions s (length (mem .lines)) row byte) [] mem (giving (accepted 0) [] (lineSet mem row byte))
 
--- ---- writing a row, which is what programming does to the memory
+-- ---- writing a row, which is what programming and commit do to the memory
 
--- the row becomes the k levels and then its check cells; the other rows stay
-unfoldable pub programmed : Shape → Memory → ℕ → List ℕ → Memory
-programmed s mem row given = withCells (withRow (columns s) (mem .cells) row (encode s given)) mem
+-- the row becomes these n cells; the other rows stay
+unfoldable pub rowWritten : Shape → Memory → ℕ → List ℕ → Memory
+rowWritten s mem row cells = withCells (withRow (columns s) (mem .cells) row cells) mem
+
+-- ---- ask
+
+-- 1 to 5, 6 on the cells, the levels and the buffer, 7 on the row, 8 on the levels; the buffer becomes the finished row, the k levels and then the check
+-- cells, and the answer is in how many cells it differs from the row as it stands; the memory stays
+unfoldable pub askCall : Shape → Memory → ℕ → List ℕ → List ℕ → Result Memory
+askCall s mem row given buffer =
+    calling (cellsQuestions s (length (mem .cells)) (askArguments s row given buffer)) buffer mem
+    (giving (accepted (differences (encode s given) (rowAt (columns s) (mem .cells) row))) (encode s given) mem)
 
 -- ---- sound
 

@@ -1,6 +1,7 @@
 // The calls that look at one row of an array: sound and read.
 use acam::matrix::matrix_of;
 use acam::sound::is_sound;
+use array_memory::questions::check_cells;
 use array_memory::questions::check_row;
 use parity::Shape;
 use shape::answer::Outcome;
@@ -17,7 +18,7 @@ ghost use Rattle.array.specs.Calls.{soundCall, readCall};
 pub fn sound(shape: Shape, cells: &[u8], row: usize) -> Verdict
     ensures { λ r. ⌜ ((mem : Memory) → soundCall shape (withCells (was cells) mem) row ≡ verdictSays r) ⌝ }
 {
-    match check_row(shape, cells.len(), shape.width, row) {
+    match check_row(check_cells(shape, cells.len()), shape, shape.width, row) {
         Checked::Refused(number) => Verdict::Refused(number),
         Checked::Taken(sizes) => {
             let levels = sizes.levels;
@@ -39,7 +40,7 @@ pub fn read(shape: Shape, cells: &[u8], row: usize, out: &mut [u8]) -> Outcome
     ensures { λ r. ⌜ ((mem : Memory) → readCall shape (withCells (was cells) mem) row (was out)
         ≡ giving (outcomeSays r) (left out) (withCells (was cells) mem)) ⌝ }
 {
-    match check_row(shape, cells.len(), out.len(), row) {
+    match check_row(check_cells(shape, cells.len()), shape, out.len(), row) {
         Checked::Refused(number) => Outcome::Refused(number),
         Checked::Taken(sizes) => {
             let columns = sizes.columns;

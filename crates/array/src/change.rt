@@ -21,7 +21,7 @@ ghost use Rattle.array_memory.specs.Questions.{cellsQuestions, programArguments
 ghost use Rattle.array.specs.Calls.{driftCall};
 
 // Writes k levels into a lent row of n cells, and its check cells.
-fn program_row(shape: Shape, checks: usize, row: &mut [u8], given: &[u8])
+pub(crate) fn program_row(shape: Shape, checks: usize, row: &mut [u8], given: &[u8])
     requires { ⌜ Taken shape × (checks ≡ checksOf shape) × (length (now row) ≡ columnsOf shape) × (length (now given) ≡ shape .width) ⌝ }
     ensures { λ _. ⌜ left row ≡ encode shape (was given) ⌝ }
 {

@@ -1,4 +1,7 @@
-// The calls on an array that need no cycle record: sound, read, drift and line; and, for the crates above, the writing of a row.
+// The calls on an array that need no cycle record: sound, read, ask, drift and line; and, for the crates above, the writing of
+// a row.
+pub mod ask;
 pub mod cells;
 pub mod change;
+pub mod commit;
 pub mod lines;

@@ -4,15 +4,17 @@ use mathlib.Core.Bool.{true}
 use mathlib.Core.List.{List, [], _∷_, _++_}
 use Prim.Native.Nat.{ℕ, _+_, _*_, _≤_, _<_}
 use native.Mathlib.Omega.{arith}
-use lib.Dec.{ltb, lit<}
+use lib.Dec.{eqb, ltb, lit<}
 use lib.ListN.{length}
 use borrow.Author.Tests.{eqb-true, leb-true, ltb-true, eq-eqb, lt-ltb}
 use Rattle.parity.specs.Lists.{every}
 use Rattle.parity.specs.Shape.{levels, columns}
+use Rattle.parity.specs.Codeword.{Codeword, isCodeword}
 use Rattle.parity.specs.Claims.{Below}
 use Rattle.parity.specs.Questions.{Question, firstNo, shapeQuestions, shapeRefusal, Taken, callQuestions, skipQuestion, lengthQuestion}
 use Rattle.parity.specs.declared.Shape.{Shape}
 use Rattle.parity.proofs.ListLaws.{every-at, every-passes}
+use Rattle.parity.proofs.CodewordTest.{codeword-test}
 use Rattle.parity.proofs.Taken.{first-yes}
 use Rattle.shape.specs.declared.sizes.Sizes.{Sizes}
 use Rattle.shape.specs.Shapes.{sizesOf}
@@ -21,6 +23,7 @@ use Rattle.array_memory.specs.Blocks.{blocks}
 use Rattle.array_memory.specs.Memory.{Memory, withArray, RowsSized, Sized, cellCount, cellsLength, linesLength}
 use Rattle.array_memory.specs.Memory.{flagsLengths, rowsQuestions, memoryQuestions}
 use Rattle.array_memory.specs.Questions.{cellsQuestions, rowArguments, programArguments, driftArguments, lineArguments, lineQuestions}
+use Rattle.array_memory.specs.Questions.{askArguments, commitArguments}
 use Rattle.array_memory.proofs.RowPlaces.{row-fits, cells-high}
 
 -- ---- the cells
@@ -86,6 +89,25 @@ module _ (s : Shape) (row : ℕ) (given : List ℕ) where
         lt-ltb row (s .rows) (p .place),
         every-passes (λ v. ltb v (levels s)) given 0 (λ j h. lt-ltb _ _ (p .below j (omega (arith, p .sized)))),
       )
+
+  -- what ask asks: that, and n bytes for the finished row
+  pub ask-reads : (buffer : List ℕ) → firstNo (askArguments s row given buffer) ≡ 0 → (length buffer ≡ columns s) × Programs
+  ask-reads buffer e =
+      let one = first-yes _ _ 6 (lit< tt) e in
+      (eqb-true (length buffer) (columns s) (one .0), program-reads (one .1))
+
+-- what commit asks
+pub record Commits (s : Shape) (row : ℕ) (finished : List ℕ) : Type 0 where
+  pub place : row < s .rows
+  pub sound : Codeword s finished
+
+pub commit-reads : (s : Shape) (row : ℕ) (finished : List ℕ) → firstNo (commitArguments s row finished) ≡ 0 → Commits s row finished
+commit-reads s row finished e =
+    let one = first-yes (eqb (length finished) (columns s)) _ 6 (lit< tt) e in
+    let two = first-yes (ltb row (s .rows)) _ 7 (lit< tt) (one .1) in
+    let three = first-yes (every (λ v. ltb v (levels s)) finished) _ 8 (lit< tt) (two .1) in
+    let four = first-yes (isCodeword s finished) 0 17 (lit< tt) (three .1) in
+    record { place = ltb-true row (s .rows) (two .0); sound = codeword-test s finished (four .0) }
 
 -- what a drift asks
 pub record Drifts (s : Shape) (row column level : ℕ) : Type 0 where

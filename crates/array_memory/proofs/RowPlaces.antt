@@ -29,10 +29,12 @@ unfolding rowAt
 row-cell s cells i j h = rw (getD-take, getD-drop)
 
 -- ---- row i: how long it is, and the part of the cells that it is
-module _ (cells : List ℕ) (m n i : ℕ) where
-  pub row-length : length cells ≡ m * n → i < m → length (rowAt n cells i) ≡ n
-  unfolding rowAt
-  row-length counted h = length-take-le n (drop (i * n) cells) (omega (arith, length-drop (i * n) cells, row-fits i m n h))
+pub row-whole : (cells : List ℕ) (n i : ℕ) → i * n + n ≤ length cells → length (rowAt n cells i) ≡ n
+unfolding rowAt
+row-whole cells n i h = length-take-le n (drop (i * n) cells) (omega (arith, length-drop (i * n) cells))
+
+pub row-length : (cells : List ℕ) (m n i : ℕ) → length cells ≡ m * n → i < m → length (rowAt n cells i) ≡ n
+row-length cells m n i counted h = row-whole cells n i (omega (arith, row-fits i m n h))
 
 -- lent as `cells[start..end]`, from i × n to n places later, and the cells when it is back
 module _ (cells : List ℕ) (i n columns : ℕ) (e : columns ≡ n) where

@@ -3,7 +3,7 @@ use mathlib.Core.List.{List, [], _∷_, _++_}
 use Prim.Native.Nat.{ℕ}
 use lib.ListN.{length}
 use Rattle.parity.specs.Shape.{columns}
-use Rattle.parity.specs.Questions.{Question, callQuestions, lengthQuestion, placeQuestion, levelsQuestion, lineQuestion}
+use Rattle.parity.specs.Questions.{Question, callQuestions, lengthQuestion, placeQuestion, levelsQuestion, lineQuestion, soundQuestion}
 use Rattle.parity.specs.declared.Shape.{Shape}
 use Rattle.array_memory.specs.Memory.{cellsLength, linesLength}
 
@@ -23,9 +23,22 @@ lineArguments s row byte = placeQuestion row (s .rows) ∷ lineQuestion byte ∷
 abbrev pub lineQuestions : Shape → ℕ → ℕ → ℕ → List Question
 lineQuestions s lines row byte = callQuestions s [] (linesLength s lines ∷ []) (lineArguments s row byte)
 
+-- 6, on the n cells of a finished row
+abbrev pub finishedLength : Shape → ℕ → Question
+finishedLength s finished = lengthQuestion finished (columns s)
+
 -- what programming asks of its arguments: 6 on the levels' number, 7 on the row, 8 on the levels
 abbrev pub rowArguments : Shape → ℕ → ℕ → List Question
 rowArguments s given row = lengthQuestion given (s .width) ∷ placeQuestion row (s .rows) ∷ []
 
 abbrev pub programArguments : Shape → ℕ → List ℕ → List Question
 programArguments s row given = rowArguments s (length given) row ++ levelsQuestion s given ∷ []
+
+-- what ask asks of its arguments: 6 on the buffer for the finished row, and what programming asks
+abbrev pub askArguments : Shape → ℕ → List ℕ → List ℕ → List Question
+askArguments s row given buffer = finishedLength s (length buffer) ∷ programArguments s row given
+
+-- what commit asks of its arguments: 6 on the finished row's length, 7 on the row, 8 on the cells to be written, and then 17 on them
+abbrev pub commitArguments : Shape → ℕ → List ℕ → List Question
+commitArguments s row finished =
+    finishedLength s (length finished) ∷ placeQuestion row (s .rows) ∷ levelsQuestion s finished ∷ soundQuestion s finished ∷ []

@@ -7,7 +7,7 @@ use native.Mathlib.Numerals.{add-one}
 use Rattle.parity.specs.Lists.{joined}
 use Rattle.parity.specs.declared.Shape.{Shape}
 use Rattle.cycle.specs.Calls.{State, stateOf, fresh}
-use Rattle.cycle.specs.Run.{Call, clear, start, program, drift, line, lookup, step, after, followed, runFrom, run}
+use Rattle.cycle.specs.Run.{Call, clear, start, program, ask, commit, drift, line, lookup, step, after, followed, runFrom, run}
 use Rattle.cycle.specs.Claims.{Leaves, Follows, FollowClaim, KeepClaim}
 
 -- the induction over lists, for what holds of two things that follow the same calls
@@ -33,10 +33,18 @@ pub followed-append : {A : Type 0} (f : A → Call → A) (xs ys : List Call) (x
 followed-append f [] ys x = refl
 followed-append f (c ∷ cs) ys x = followed-append f cs ys (f x c)
 
+-- two lists that make the same of every thing are one in the other's place
+pub followed-same :
+    {A : Type 0} (f : A → Call → A) (ys zs : List Call) → ((x : A) → followed f x ys ≡ followed f x zs)
+    → (xs : List Call) (x : A) → followed f x (xs ++ ys) ≡ followed f x (xs ++ zs)
+followed-same f ys zs same xs x = followed-append f xs ys x ∙ same (followed f x xs) ∙ sym (followed-append f xs zs x)
+
 leaves-after : (s : Shape) (st : State) (c : Call) (next : State) → Leaves s st c next → after s st c ≡ next
 leaves-after s st clear next (r, e, same) = ap (λ r. r .state) e ∙ same
 leaves-after s st (start z) next (r, e, same) = ap (λ r. r .state) e ∙ same
 leaves-after s st (program row given) next (r, e, same) = ap (λ r. r .state) e ∙ same
+leaves-after s st (ask row given buffer) next (r, e, same) = ap (λ r. stateOf (r .state) (st .cycle)) e ∙ same
+leaves-after s st (commit row finished) next (r, e, same) = ap (λ r. r .state) e ∙ same
 leaves-after s st (drift row column level) next (r, e, same) = ap (λ r. stateOf (r .state) (st .cycle)) e ∙ same
 leaves-after s st (line row byte) next (r, e, same) = ap (λ r. stateOf (r .state) (st .cycle)) e ∙ same
 leaves-after s st (lookup inputs matches) next (r, e, same) = ap (λ r. stateOf (r .state) (st .cycle)) e ∙ same

@@ -1,14 +1,16 @@
--- Document 01, "Calls on one array": each call that has the cycle record as one definition that gives all of its result, taken or refused.
+-- Document 01, "Calls on one array", with the commit of document 02's Card 5: each call that has the cycle record as one definition that gives all of
+-- its result, taken or refused.
 use mathlib.Core.List.{List, [], _∷_, _++_}
 use Prim.Native.Nat.{ℕ, suc}
 use lib.ListN.{length, replicate}
+use Rattle.parity.specs.Codeword.{encode}
 use Rattle.parity.specs.Questions.{Question, callQuestions, skipQuestion, lengthQuestion}
 use Rattle.parity.specs.declared.Shape.{Shape}
 use Rattle.shape.specs.Answers.{Result, accepted, giving, calling}
 use Rattle.array_memory.specs.Blocks.{blocks}
 use Rattle.array_memory.specs.Memory.{Memory, withArray, withRows, noMemory, cellCount, rowsQuestions, memoryQuestions}
-use Rattle.array_memory.specs.Questions.{cellsQuestions, programArguments}
-use Rattle.array.specs.Calls.{programmed}
+use Rattle.array_memory.specs.Questions.{cellsQuestions, programArguments, commitArguments}
+use Rattle.array.specs.Calls.{rowWritten}
 use Rattle.cycle_lookup.specs.Lookup.{entryMatches, lookedUp}
 use Rattle.cycle.specs.Record.{idle, nextEntry, cycleAt, cycleQuestion}
 use Rattle.cycle.specs.declared.Cycle.{Cycle}
@@ -45,11 +47,19 @@ fresh s = stateOf (cleared s noMemory) idle
 
 -- ---- program
 
--- the row's cells are written, and the record becomes idle with count 0
+-- the row becomes the k levels and then the check cells that make them sound, and the record becomes idle with count 0
 unfoldable pub programCall : Shape → State → ℕ → List ℕ → Result State
 programCall s st row given =
     calling (cellsQuestions s (length (st .memory .cells)) (programArguments s row given)) [] st
-    (giving (accepted 0) [] (stateOf (programmed s (st .memory) row given) idle))
+    (giving (accepted 0) [] (stateOf (rowWritten s (st .memory) row (encode s given)) idle))
+
+-- ---- commit
+
+-- the row becomes the n cells that are given, where they are sound, and the record becomes idle with count 0, as programming makes it
+unfoldable pub commitCall : Shape → State → ℕ → List ℕ → Result State
+commitCall s st row finished =
+    calling (cellsQuestions s (length (st .memory .cells)) (commitArguments s row finished)) [] st
+    (giving (accepted 0) [] (stateOf (rowWritten s (st .memory) row finished) idle))
 
 -- ---- start
 

@@ -1,20 +1,24 @@
--- Document 01, "The lists of demand 3", with the line call of document 02's Card 4: calls as data, and a list of them run from
--- the fresh array by the calls' own definitions.
+-- Document 01, "The lists of demand 3", with document 02's line call (Card 4), ask and commit (Card 5): calls as data, and a list of them run
+-- from the fresh array by the calls' own definitions.
 use mathlib.Core.List.{List, [], _∷_}
 use Prim.Native.Nat.{ℕ}
 use Rattle.parity.specs.declared.Shape.{Shape}
-use Rattle.array.specs.Calls.{driftCall, lineCall}
+use Rattle.array.specs.Calls.{driftCall, lineCall, askCall}
 use Rattle.array_lookup.specs.Lookups.{lookupCall}
-use Rattle.cycle.specs.Calls.{State, stateOf, fresh, clearCall, programCall, startCall, stepCall}
+use Rattle.cycle.specs.Calls.{State, stateOf, fresh, clearCall, programCall, commitCall, startCall, stepCall}
 
--- A call with its arguments: numbers of digits, rows and columns, levels, a line byte, inputs and the buffer for match bytes, of any length and
--- contents.
+-- A call with its arguments: numbers of digits, rows and columns, levels, a line byte, inputs, finished rows and the buffers for these and for match
+-- bytes, of any length and contents.
 pub data Call : Type 0 where
   clear : Call
   -- the number of digits to skip
   start : ℕ → Call
   -- a row's number and levels
   program : ℕ → List ℕ → Call
+  -- a row's number, levels and the buffer for the finished row
+  ask : ℕ → List ℕ → List ℕ → Call
+  -- a row's number and a finished row
+  commit : ℕ → List ℕ → Call
   -- a row's number, a column's and a level
   drift : ℕ → ℕ → ℕ → Call
   -- a row's number and a line byte
@@ -29,6 +33,8 @@ abbrev pub after : Shape → State → Call → State
 after s st clear = clearCall s st .state
 after s st (start z) = startCall s st z .state
 after s st (program row given) = programCall s st row given .state
+after s st (ask row given buffer) = stateOf (askCall s (st .memory) row given buffer .state) (st .cycle)
+after s st (commit row finished) = commitCall s st row finished .state
 after s st (drift row column level) = stateOf (driftCall s (st .memory) row column level .state) (st .cycle)
 after s st (line row byte) = stateOf (lineCall s (st .memory) row byte .state) (st .cycle)
 after s st (lookup inputs matches) = stateOf (lookupCall s (st .memory) inputs matches .state) (st .cycle)

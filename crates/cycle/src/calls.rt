@@ -1,13 +1,16 @@
-// The calls that have the cycle record: clear, program, start and step. A refused call hands the record back as it was
+// The calls that have the cycle record: clear, program, commit, start and step. A refused call hands the record back as it was
 // given and leaves every buffer as it was.
 use super::Changed;
 use super::Cycle;
 use acam::matrix::matrix_of;
 use array::change::write_row;
+use array::commit::put_row;
 use array_memory::memory::check_matches;
 use array_memory::memory::check_memory;
 use array_memory::memory::check_rows;
 use array_memory::memory::check_skip;
+use array_memory::questions::check_cells;
+use array_memory::questions::check_commit;
 use array_memory::questions::check_program;
 use cycle_lookup::opening::make_opening;
 use cycle_lookup::tests::make_test;
@@ -28,7 +31,7 @@ ghost use Rattle.parity.specs.Questions.{firstNo, callQuestions};
 ghost use Rattle.shape.specs.Lent.{was, left};
 ghost use Rattle.shape.specs.Shapes.{sizesOf};
 ghost use Rattle.array_memory.specs.Memory.{Memory, withCells, withRows, withAll, noMemory};
-ghost use Rattle.cycle.specs.Calls.{stateOf, clearCall, programCall, startCall, lentQuestions, stepCall};
+ghost use Rattle.cycle.specs.Calls.{stateOf, clearCall, programCall, commitCall, startCall, lentQuestions, stepCall};
 ghost use Rattle.cycle.specs.Methods.{changing, refusedWith, doneWith};
 
 // A refusal: the record as it was given.
@@ -88,10 +91,25 @@ impl Cycle {
         ensures { λ r. ⌜ ((mem : Memory) → programCall shape (stateOf (withCells (was cells) mem) self) row (was given)
             ≡ changing r [] (withCells (left cells) mem)) ⌝ }
     {
-        match check_program(shape, cells.len(), row, given) {
+        match check_program(check_cells(shape, cells.len()), shape, row, given) {
             Checked::Refused(number) => refused(self, number),
             Checked::Taken(sizes) => {
                 write_row(shape, sizes, cells, row, given);
+                done(Cycle::IDLE)
+            }
+        }
+    }
+
+    // Commit: writes a finished row of n cells, as ask gives it; the record becomes idle.
+    pub fn commit(self, shape: Shape, cells: &mut [u8], row: usize, finished: &[u8]) -> Changed
+        ensures { λ r. ⌜ ((mem : Memory) → commitCall shape (stateOf (withCells (was cells) mem) self) row (was finished)
+            ≡ changing r [] (withCells (left cells) mem)) ⌝ }
+    {
+        match check_commit(shape, cells.len(), row, finished) {
+            Checked::Refused(number) => refused(self, number),
+            Checked::Taken(sizes) => {
+                let columns = sizes.columns;
+                put_row(columns, cells, row, finished);
                 done(Cycle::IDLE)
             }
         }

@@ -2,7 +2,7 @@
 use mathlib.Core.Path.{refl}
 use Rattle.parity.specs.Shape.{digit, levels, largest, limit, redundancy, checks, columns}
 use Rattle.parity.specs.Matrix.{weight, ofWeight, columnOrder, eligible, ruleColumns, checkColumns, matrix, support, matrixOnes, lookups}
-use Rattle.parity.specs.Codeword.{number, checkDigit, checkCell, encode}
+use Rattle.parity.specs.Codeword.{isCodeword, number, checkDigit, checkCell, encode}
 use Rattle.parity.specs.Match.{matchByte, lineMatch, taskVector}
 use Rattle.schedule.specs.Schedule.{factors, ofDigit, ofCheck, tests, schedule, unitVector, testVector}
 use Rattle.schedule.specs.Tally.{counted, flagged, reset}
@@ -10,19 +10,20 @@ use Rattle.shape.specs.Answers.{calling}
 use Rattle.array_memory.specs.Blocks.{blocksOf, blockAt, countFlagged, blockTotals}
 use Rattle.array_memory.specs.Geometry.{rowAt, withRow, rowMatch, matchBytes}
 use Rattle.array_memory.specs.Memory.{cellCount}
-use Rattle.array.specs.Calls.{drifted, driftCall, lineSet, lineCall, programmed}
+use Rattle.array.specs.Calls.{drifted, driftCall, lineSet, lineCall, rowWritten, askCall}
 use Rattle.array_lookup.specs.Lookups.{taskMatches, taskCount, lookupCall}
 use Rattle.cycle_place.specs.Places.{entryAt, nextAt, isPlaceOf}
 use Rattle.cycle_lookup.specs.Lookup.{entryMatches, countedRows, flaggedRows, totalledBlocks, resetRows, lookedUp}
 use Rattle.cycle.specs.Record.{cycleAt, isNext}
-use Rattle.cycle.specs.Calls.{zeroRows, cleared, fresh, programCall, started, startCall, stepMatches, steppedMemory, stepped, stepCall}
+use Rattle.cycle.specs.Calls.{zeroRows, cleared, fresh, programCall, commitCall, started, startCall, stepMatches, steppedMemory, stepped, stepCall}
 use Rattle.cycle.specs.Run.{run}
 use Rattle.detection.specs.Log.{blank, log}
 use Rattle.detection.specs.Examples.{ExamplesClaim, examples, LineExamplesClaim, lineExamples, CoarseExamplesClaim, coarseCycle, OpeningExampleClaim}
+use Rattle.detection.specs.Examples.{AskExampleClaim, asking, CommitExampleClaim}
 
 pub examplesClaim : ExamplesClaim
 unfolding
-    examples run log blank calling zeroRows cleared fresh programCall driftCall lookupCall startCall stepCall started stepped steppedMemory drifted programmed
+    examples run log blank calling zeroRows cleared fresh programCall driftCall lookupCall startCall stepCall started stepped steppedMemory drifted rowWritten
     taskMatches taskCount entryMatches countedRows flaggedRows totalledBlocks resetRows lookedUp stepMatches entryAt nextAt isPlaceOf cycleAt isNext
     cellCount blocksOf blockAt countFlagged blockTotals rowAt withRow rowMatch matchBytes counted flagged reset factors ofDigit ofCheck tests schedule
     unitVector testVector matchByte lineMatch taskVector
@@ -41,7 +42,7 @@ lineExamplesClaim = refl
 
 pub coarseExamplesClaim : CoarseExamplesClaim
 unfolding
-    coarseCycle run log blank calling zeroRows cleared fresh programCall driftCall startCall stepCall started stepped steppedMemory drifted programmed
+    coarseCycle run log blank calling zeroRows cleared fresh programCall driftCall startCall stepCall started stepped steppedMemory drifted rowWritten
     entryMatches countedRows flaggedRows totalledBlocks resetRows lookedUp stepMatches entryAt nextAt isPlaceOf cycleAt isNext cellCount blocksOf blockAt
     countFlagged
     blockTotals rowAt withRow rowMatch matchBytes counted flagged reset factors ofDigit ofCheck tests schedule unitVector testVector matchByte lineMatch
@@ -57,3 +58,18 @@ unfolding
     lineMatch weight ofWeight columnOrder eligible ruleColumns checkColumns matrix support matrixOnes lookups
     digit levels largest limit redundancy checks columns
 openingExampleClaim = record { refused = refl; matches = refl; flags = refl; counters = refl; count = refl }
+
+pub askExampleClaim : AskExampleClaim
+unfolding
+    asking run log blank calling zeroRows cleared fresh programCall commitCall askCall driftCall startCall stepCall started stepped steppedMemory drifted
+    rowWritten entryMatches countedRows flaggedRows totalledBlocks resetRows lookedUp stepMatches entryAt nextAt isPlaceOf cycleAt isNext cellCount blocksOf
+    blockAt countFlagged blockTotals rowAt withRow rowMatch matchBytes counted flagged reset factors ofDigit ofCheck tests schedule unitVector testVector
+    matchByte lineMatch isCodeword number checkDigit checkCell encode weight ofWeight columnOrder eligible ruleColumns checkColumns matrix support
+    matrixOnes lookups digit levels largest limit redundancy checks columns
+askExampleClaim = record { changed = refl; finished = refl; left = refl }
+
+pub commitExampleClaim : CommitExampleClaim
+unfolding
+    run calling zeroRows cleared fresh programCall commitCall askCall rowWritten cellCount blocksOf rowAt withRow isCodeword number checkDigit checkCell encode
+    weight ofWeight columnOrder eligible ruleColumns checkColumns matrix support digit levels largest limit redundancy checks columns
+commitExampleClaim = record { changed = refl; finished = refl; unsound = refl; high = refl }

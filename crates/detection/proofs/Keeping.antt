@@ -13,27 +13,27 @@ use borrow.Author.Tests.{eqb-true, eqb-false, ltb-true}
 use Rattle.parity.specs.Shape.{levels, columns}
 use Rattle.parity.specs.Matrix.{lookups, cycleSteps}
 use Rattle.parity.specs.Codeword.{Codeword, encode}
-use Rattle.parity.specs.Questions.{Taken, firstNo, ifTaken}
+use Rattle.parity.specs.Questions.{Question, Taken, firstNo, ifTaken}
 use Rattle.parity.specs.declared.Shape.{Shape}
 use Rattle.parity.proofs.Encoding.{encodedClaim}
 use Rattle.shape.specs.Answers.{accepted, refused, giving, calling}
-use Rattle.shape.proofs.Calling.{call-done}
+use Rattle.shape.proofs.Calling.{call-done, call-keeps}
 use Rattle.array_memory.specs.Geometry.{withRow}
 use Rattle.array_memory.specs.Memory.{Memory, Sized, withCells, withLines}
-use Rattle.array_memory.specs.Questions.{cellsQuestions, programArguments, driftArguments, lineArguments}
-use Rattle.array.specs.Calls.{programmed, drifted, driftCall, lineSet, lineCall}
+use Rattle.array_memory.specs.Questions.{cellsQuestions, programArguments, commitArguments, driftArguments, lineArguments}
+use Rattle.array.specs.Calls.{rowWritten, askCall, drifted, driftCall, lineSet, lineCall}
 use Rattle.array_memory.proofs.RowPlaces.{row-cell}
-use Rattle.array_memory.proofs.Asked.{Programs, program-reads, Drifts, drift-reads, rows-kept}
-use Rattle.array_lookup.specs.Lookups.{lookupArguments, taskMatches, taskCount, lookupCall}
+use Rattle.array_memory.proofs.Asked.{program-reads, commit-reads, Drifts, drift-reads, rows-kept}
+use Rattle.array_lookup.specs.Lookups.{lookupCall}
 use Rattle.cycle_lookup.specs.Lookup.{lookedUp}
 use Rattle.cycle.specs.Record.{idle, isNext}
-use Rattle.cycle.specs.Calls.{State, stateOf, zeroRows, cleared, fresh, clearCall, programCall, started, steppedMemory, stepped}
-use Rattle.cycle.specs.Run.{Call, clear, start, program, drift, line, lookup, step, after, runFrom}
+use Rattle.cycle.specs.Calls.{State, stateOf, zeroRows, cleared, fresh, clearCall, programCall, commitCall, started, steppedMemory, stepped}
+use Rattle.cycle.specs.Run.{Call, clear, start, program, ask, commit, drift, line, lookup, step, after, runFrom}
 use Rattle.cycle.proofs.Asked.{clear-asked, cells-asked, line-asked}
 use Rattle.cycle.proofs.CycleRecord.{stands-at, stands-next, next-idle, next-open, next-complete}
 use Rattle.cycle.proofs.Runs.{run-keeps}
 use Rattle.cycle.proofs.Steps.{started-tallies, started-sized, start-state, stepped-tallies, stepped-cycle, stepped-sized, step-state}
-use Rattle.detection.specs.Log.{Course, none, open-cycle, ended, Log, logProgram, changedBy, logDrift, logLine, logStart, logStep, whileOpen}
+use Rattle.detection.specs.Log.{Course, none, open-cycle, ended, Log, logWritten, changedBy, logDrift, logLine, logStart, logStep, whileOpen}
 use Rattle.detection.specs.Log.{logCall, logFrom}
 use Rattle.detection.proofs.Elements.{all-set, at-set}
 use Rattle.detection.proofs.Rows.{flat-with, flat-set}
@@ -42,18 +42,17 @@ use Rattle.detection.proofs.Agreement.{Cells, codeword-cells, RowsAgree
 -- ---- the rows
 
 module _ (s : Shape) (cells : List ℕ) (written standing : List (List ℕ)) (r : RowsAgree s cells written standing) where
-  rows-programmed :
-      Taken s → (row : ℕ) (given : List ℕ) → Programs s row given
-      → RowsAgree s (withRow (columns s) cells row (encode s given)) (set written row (encode s given)) (set standing row (encode s given))
+  rows-written :
+      (row : ℕ) (new : List ℕ) → row < s .rows → Codeword s new
+      → RowsAgree s (withRow (columns s) cells row new) (set written row new) (set standing row new)
   unfolding withRow
-  rows-programmed t row given p =
-      let code : Codeword s (encode s given) = encodedClaim s t given (p .sized) (p .below) in
+  rows-written row new place code =
       record {
         writtenCount = length-set written row _ ∙ r .writtenCount;
         standingCount = length-set standing row _ ∙ r .standingCount;
         sound = all-set (Codeword s) written row _ (r .sound) code;
         stands = all-set (Cells s) standing row _ (r .stands) (codeword-cells s _ code);
-        laid = rw (r .laid) (flat-with (columns s) standing row (encode s given) (wide s cells written standing r) (rw (r .standingCount) (p .place)));
+        laid = rw (r .laid) (flat-with (columns s) standing row new (wide s cells written standing r) (rw (r .standingCount) place));
       }
 
   rows-drifted :
@@ -122,26 +121,42 @@ module _ (s : Shape) (t : Taken s) (st : State) (l : Log) (a : Agrees s st l) wh
       go true e = agrees-started z (ltb-true z (s .digits) e)
       go false e = a
 
-  agrees-program : (row : ℕ) (given : List ℕ) → Agrees s (after s st (program row given)) (logCall s l (program row given))
-  unfolding programCall calling programmed
-  agrees-program row given = rw (after, cells-asked s t st (sized s st l a) (programArguments s row given)) (go (firstNo (programArguments s row given)) refl)
+  -- a call that writes a row of levels, sound where its questions have no no
+  agrees-written :
+      (row : ℕ) (new : List ℕ) (own : List Question) → (firstNo own ≡ 0 → (row < s .rows) × Codeword s new)
+      → Agrees s
+      (calling (cellsQuestions s (length (st .memory .cells)) own) [] st (giving (accepted 0) [] (stateOf (rowWritten s (st .memory) row new) idle)) .state)
+      (ifTaken (firstNo own) (logWritten row new l) l)
+  unfolding calling rowWritten
+  agrees-written row new own right = rw (cells-asked s t st (sized s st l a) own) (go (firstNo own) refl)
     where
       go :
-          (n : ℕ) → firstNo (programArguments s row given) ≡ n
+          (n : ℕ) → firstNo own ≡ n
           → Agrees s
           (ifTaken n
-          (giving (accepted 0) [] (stateOf (withCells (withRow (columns s) (st .memory .cells) row (encode s given)) (st .memory)) idle))
+          (giving (accepted 0) [] (stateOf (withCells (withRow (columns s) (st .memory .cells) row new) (st .memory)) idle))
           (giving (refused 0 n) [] st) .state)
-          (ifTaken n (logProgram s row given l) l)
+          (ifTaken n (logWritten row new l) l)
       go zero e =
           record {
-            rows = rows-programmed s _ _ _ (a .rows) t row given (program-reads s row given e);
+            rows = rows-written s _ _ _ (a .rows) row new (right e .0) (right e .1);
             lines = a .lines;
             lineCount = a .lineCount;
             rest = rows-kept s (st .memory) (a .rest) _ _;
             course = record { phase = refl; count = (refl, refl); skip = (refl, refl) };
           }
       go (suc n) e = a
+
+  agrees-program : (row : ℕ) (given : List ℕ) → Agrees s (after s st (program row given)) (logCall s l (program row given))
+  unfolding programCall
+  agrees-program row given =
+      agrees-written row (encode s given) (programArguments s row given)
+      (λ e. let p = program-reads s row given e in (p .place, encodedClaim s t given (p .sized) (p .below)))
+
+  agrees-commit : (row : ℕ) (finished : List ℕ) → Agrees s (after s st (commit row finished)) (logCall s l (commit row finished))
+  unfolding commitCall
+  agrees-commit row finished =
+      agrees-written row finished (commitArguments s row finished) (λ e. let p = commit-reads s row finished e in (p .place, p .sound))
 
   -- a cell or a line that is set to what it was
   drift-same :
@@ -205,22 +220,14 @@ module _ (s : Shape) (t : Taken s) (st : State) (l : Log) (a : Agrees s st l) wh
           }
       go (suc n) = a
 
-  -- a lookup, taken or refused, leaves the state
+  -- a lookup and an ask, taken or refused, leave the state
   agrees-lookup : (inputs matches : List ℕ) → Agrees s (after s st (lookup inputs matches)) l
-  unfolding lookupCall calling
-  agrees-lookup inputs matches =
-      go (firstNo (cellsQuestions s (length (st .memory .cells)) (lookupArguments s (length (st .memory .lines)) (length matches) inputs)))
-    where
-      go :
-          (n : ℕ)
-          → Agrees s
-          (stateOf
-          (ifTaken n (giving (accepted (taskCount s (st .memory) inputs)) (taskMatches s (st .memory) inputs) (st .memory))
-          (giving (refused 0 n) matches (st .memory)) .state)
-          (st .cycle))
-          l
-      go zero = a
-      go (suc n) = a
+  unfolding lookupCall
+  agrees-lookup inputs matches = call-keeps _ _ (st .memory) _ (λ mem. Agrees s (stateOf mem (st .cycle)) l) a a
+
+  agrees-ask : (row : ℕ) (given buffer : List ℕ) → Agrees s (after s st (ask row given buffer)) l
+  unfolding askCall
+  agrees-ask row given buffer = call-keeps _ _ (st .memory) _ (λ mem. Agrees s (stateOf mem (st .cycle)) l) a a
 
   agrees-stepped : Running s st (l .skip) (l .count) (l .changed) → l .count < cycleSteps (l .skip) s → Agrees s (stepped s st) (logStep s l)
   unfolding stepped steppedMemory lookedUp
@@ -274,6 +281,8 @@ module _ (s : Shape) (t : Taken s) (st : State) (l : Log) (a : Agrees s st l) wh
   agrees-call clear = agrees-clear
   agrees-call (start z) = agrees-start z
   agrees-call (program row given) = agrees-program row given
+  agrees-call (ask row given buffer) = agrees-ask row given buffer
+  agrees-call (commit row finished) = agrees-commit row finished
   agrees-call (drift row column level) = agrees-drift row column level
   agrees-call (line row byte) = agrees-line row byte
   agrees-call (lookup inputs matches) = agrees-lookup inputs matches

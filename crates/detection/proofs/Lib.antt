@@ -8,5 +8,6 @@ pub mod Agreement
 pub mod Keeping
 pub mod Marks
 pub mod Detection
+pub mod Commits
 pub mod Shutdown
 pub mod Examples

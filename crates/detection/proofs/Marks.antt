@@ -5,14 +5,15 @@ use mathlib.Core.Bool.{false, true≢false}
 use mathlib.Core.List.{List, [], _∷_}
 use Prim.Native.Nat.{ℕ}
 use lib.ListN.{getD, replicate}
+use Rattle.parity.specs.Codeword.{encode}
 use Rattle.parity.specs.Questions.{firstNo}
 use Rattle.parity.specs.declared.Shape.{Shape}
 use Rattle.shape.proofs.Calling.{if-either}
-use Rattle.array_memory.specs.Questions.{programArguments, driftArguments, lineArguments}
+use Rattle.array_memory.specs.Questions.{programArguments, commitArguments, driftArguments, lineArguments}
 use Rattle.cycle.specs.Calls.{startArguments, stepArguments}
-use Rattle.cycle.specs.Run.{Call, clear, start, program, drift, line, lookup, step}
+use Rattle.cycle.specs.Run.{Call, clear, start, program, ask, commit, drift, line, lookup, step}
 use Rattle.cycle.proofs.Runs.{followed-keeps}
-use Rattle.detection.specs.Log.{Course, none, open-cycle, ended, Log, blank, logProgram, logDrift, logLine, logStart, logStep, whileOpen}
+use Rattle.detection.specs.Log.{Course, none, open-cycle, ended, Log, blank, logWritten, logDrift, logLine, logStart, logStep, whileOpen}
 use Rattle.detection.specs.Log.{logCall, logFrom, log}
 use Rattle.detection.specs.Claims.{UnmarkedClaim, SetsNoLine, SoundLinesClaim}
 use Rattle.detection.proofs.ZeroRow.{same-cell}
@@ -40,7 +41,9 @@ weaker-blank s off = refl
 weaker-call : (s : Shape) (l : Log) (c : Call) → Weaker l → Weaker (logCall s l c)
 weaker-call s l clear h = weaker-blank s
 weaker-call s l (start z) h = if-either Weaker (firstNo (startArguments s z)) (logStart z l) l (λ off. refl) h
-weaker-call s l (program row given) h = if-either Weaker (firstNo (programArguments s row given)) (logProgram s row given l) l h h
+weaker-call s l (program row given) h = if-either Weaker (firstNo (programArguments s row given)) (logWritten row (encode s given) l) l h h
+weaker-call s l (ask row given buffer) h = h
+weaker-call s l (commit row finished) h = if-either Weaker (firstNo (commitArguments s row finished)) (logWritten row finished l) l h h
 weaker-call s l (drift row column level) h =
     if-either Weaker (firstNo (driftArguments s row column level)) (logDrift row column level l) l (λ off. absurd (true≢false off)) h
 weaker-call s l (line row byte) h =
@@ -68,7 +71,10 @@ module _ (s : Shape) where
   sound-run (clear ∷ calls) l unset h = sound-run calls (blank s) unset sound-blank
   sound-run (start z ∷ calls) l unset h = sound-run calls _ unset (if-either Sound (firstNo (startArguments s z)) (logStart z l) l h h)
   sound-run (program row given ∷ calls) l unset h =
-      sound-run calls _ unset (if-either Sound (firstNo (programArguments s row given)) (logProgram s row given l) l h h)
+      sound-run calls _ unset (if-either Sound (firstNo (programArguments s row given)) (logWritten row (encode s given) l) l h h)
+  sound-run (ask row given buffer ∷ calls) l unset h = sound-run calls l unset h
+  sound-run (commit row finished ∷ calls) l unset h =
+      sound-run calls _ unset (if-either Sound (firstNo (commitArguments s row finished)) (logWritten row finished l) l h h)
   sound-run (drift row column level ∷ calls) l unset h =
       sound-run calls _ unset (if-either Sound (firstNo (driftArguments s row column level)) (logDrift row column level l) l h h)
   sound-run (line row byte ∷ calls) l unset h = absurd unset

@@ -25,7 +25,7 @@ use Rattle.schedule.specs.Coarse.{isBalancedFrom}
 use Rattle.schedule.proofs.Balanced.{codeword-balanced}
 use Rattle.cycle.specs.Calls.{State, fresh}
 use Rattle.cycle.specs.Run.{Call, start, program, runFrom, run}
-use Rattle.detection.specs.Log.{ended, Log, blank, logProgram, logCall, logFrom, log}
+use Rattle.detection.specs.Log.{ended, Log, blank, logWritten, logCall, logFrom, log}
 use Rattle.detection.specs.Claims.{stepsWith, Buffers, repair, ShutdownClaim}
 use Rattle.detection.proofs.Elements.{at-set}
 use Rattle.cycle.proofs.Runs.{followed-append, run-append}
@@ -137,7 +137,7 @@ module _ (s : Shape) (t : Taken s) (st : State) (l : Log) (a : Agrees s st l) wh
         before : Log
         before = logFrom s l (part n)
 
-        either : (n′ : ℕ) → ifTaken n′ (logProgram s n given before) before .lines ≡ before .lines
+        either : (n′ : ℕ) → ifTaken n′ (logWritten n (encode s given) before) before .lines ≡ before .lines
         either zero = refl
         either (suc n′) = refl
 

@@ -17,7 +17,7 @@ use Rattle.array_memory.specs.Geometry.{rowAt}
 use Rattle.array_memory.specs.Memory.{Sized, cellCount}
 use Rattle.cycle.specs.Record.{cycleAt, isNext}
 use Rattle.cycle.specs.Calls.{State}
-use Rattle.cycle.specs.Run.{Call, clear, start, program, drift, line, lookup, step, runFrom, run}
+use Rattle.cycle.specs.Run.{Call, clear, start, program, ask, commit, drift, line, lookup, step, runFrom, run}
 use Rattle.detection.specs.Log.{Course, none, open-cycle, ended, log}
 use Rattle.cycle.specs.declared.Cycle.{Cycle}
 use Rattle.cycle.specs.declared.Phase.{Phase}
@@ -94,6 +94,8 @@ SetsNoLine [] = Unit {0}
 SetsNoLine (clear ∷ calls) = SetsNoLine calls
 SetsNoLine (start z ∷ calls) = SetsNoLine calls
 SetsNoLine (program row given ∷ calls) = SetsNoLine calls
+SetsNoLine (ask row given buffer ∷ calls) = SetsNoLine calls
+SetsNoLine (commit row finished ∷ calls) = SetsNoLine calls
 SetsNoLine (drift row column level ∷ calls) = SetsNoLine calls
 SetsNoLine (line row byte ∷ calls) = ⊥
 SetsNoLine (lookup inputs matches ∷ calls) = SetsNoLine calls

@@ -1,16 +1,17 @@
 -- The claim is not empty: four lists at a small shape (ρ 2, b 1, τ 1, k 1, m 2: n is 2 and a cycle has 3 steps), four more there with lines, and four
--- with coarse cycles at a shape of three digits, with what they leave; and there the opening step itself.
+-- with coarse cycles at a shape of three digits, with what they leave; there the opening step itself; and ask and commit at both shapes.
 use mathlib.Core.Path.{_≡_}
 use mathlib.Core.Bool.{Bool, true, false}
-use mathlib.Core.List.{List, [], _∷_, map}
+use mathlib.Core.List.{List, [], _∷_, _++_, map}
 use Prim.Native.Nat.{ℕ}
 use lib.ListN.{replicate}
 use Rattle.parity.specs.Matrix.{cycleSteps}
 use Rattle.parity.specs.declared.Shape.{Shape}
 use Rattle.array.specs.Calls.{lineCall}
 use Rattle.cycle.specs.Calls.{stepCall}
-use Rattle.cycle.specs.Run.{Call, start, program, drift, line, lookup, step, run}
+use Rattle.cycle.specs.Run.{Call, start, program, ask, commit, drift, line, lookup, step, run}
 use Rattle.detection.specs.Log.{Course, none, ended, log}
+use Rattle.detection.specs.Commits.{asks, commits}
 
 abbrev pub small : Shape
 small = record { radix = 2; digits = 1; errors = 1; width = 1; rows = 2 }
@@ -131,3 +132,31 @@ pub record OpeningExampleClaim : Type 0 where
   pub flags : stepCall threeDigits (run threeDigits openingCalls) (7 ∷ 7 ∷ []) .state .memory .flags ≡ 0 ∷ 1 ∷ []
   pub counters : stepCall threeDigits (run threeDigits openingCalls) (7 ∷ 7 ∷ []) .state .memory .counters ≡ 0 ∷ 0 ∷ []
   pub count : stepCall threeDigits (run threeDigits openingCalls) (7 ∷ 7 ∷ []) .state .cycle .count ≡ 1
+
+-- ---- ask and commit
+
+-- in an open cycle, row 1 holding a 1
+abbrev pub opened : List Call
+opened = program 1 (1 ∷ []) ∷ start 0 ∷ stepTwo ∷ []
+
+-- There row 1 is asked about for a 0, it drifts, and the cycle steps; then the row is written, or is not, and a whole cycle is run.
+unfoldable pub asking : List Call → List Call
+asking writing = opened ++ ask 1 (0 ∷ []) (7 ∷ 7 ∷ []) ∷ drift 1 0 0 ∷ stepTwo ∷ writing ++ start 0 ∷ stepTwo ∷ stepTwo ∷ stepTwo ∷ []
+
+-- The finished row is 0 0, and both its cells differ. Its commit and the programming of its level leave the same; without either the drift is flagged.
+pub record AskExampleClaim : Type 0 where
+  pub changed : asks small opened 1 (0 ∷ []) (7 ∷ 7 ∷ []) .said .value ≡ 2
+  pub finished : asks small opened 1 (0 ∷ []) (7 ∷ 7 ∷ []) .bytes ≡ 0 ∷ 0 ∷ []
+  pub left :
+      map (λ writing. seen small (asking writing)) ((commit 1 (0 ∷ 0 ∷ []) ∷ []) ∷ (program 1 (0 ∷ []) ∷ []) ∷ [] ∷ [])
+      ≡ endedWith 0 3 (0 ∷ 0 ∷ []) ∷ endedWith 0 3 (0 ∷ 0 ∷ []) ∷ endedWith 0 3 (0 ∷ 1 ∷ []) ∷ []
+
+-- Of a row that holds 5 2 1 6, two cells would change to 4 3 1 6. A row that isn't sound gets 17, and one with a cell of q gets 8 before it.
+abbrev pub held : List Call
+held = program 0 (5 ∷ 2 ∷ 1 ∷ []) ∷ []
+
+pub record CommitExampleClaim : Type 0 where
+  pub changed : asks threeDigits held 0 (4 ∷ 3 ∷ 1 ∷ []) (7 ∷ 7 ∷ 7 ∷ 7 ∷ []) .said .value ≡ 2
+  pub finished : asks threeDigits held 0 (4 ∷ 3 ∷ 1 ∷ []) (7 ∷ 7 ∷ 7 ∷ 7 ∷ []) .bytes ≡ 4 ∷ 3 ∷ 1 ∷ 6 ∷ []
+  pub unsound : commits threeDigits held 0 (5 ∷ 2 ∷ 0 ∷ 6 ∷ []) .said .number ≡ 17
+  pub high : commits threeDigits held 0 (8 ∷ 0 ∷ 0 ∷ 0 ∷ []) .said .number ≡ 8

@@ -1,5 +1,5 @@
--- Document 01's log of a list of calls, with the digits that a cycle skips (document 02, Card 2) and the lines (Card 4). It is fed the shape and the
--- calls alone: of the library it names the shape's sizes, the questions on arguments, the encoded row and the length of a cycle.
+-- Document 01's log of a list of calls, with the digits that a cycle skips (document 02, Card 2), the lines (Card 4), ask and commit (Card 5). It is fed the
+-- shape and the calls alone: of the library it names the shape's sizes, the questions on arguments, the encoded row and the length of a cycle.
 use mathlib.Core.Bool.{Bool, true, false, cond}
 use mathlib.Core.List.{List, []}
 use Prim.Native.Nat.{ℕ, suc}
@@ -10,9 +10,9 @@ use Rattle.parity.specs.Matrix.{cycleSteps}
 use Rattle.parity.specs.Codeword.{encode}
 use Rattle.parity.specs.Questions.{firstNo, ifTaken}
 use Rattle.parity.specs.declared.Shape.{Shape}
-use Rattle.array_memory.specs.Questions.{programArguments, driftArguments, lineArguments}
+use Rattle.array_memory.specs.Questions.{programArguments, commitArguments, driftArguments, lineArguments}
 use Rattle.cycle.specs.Calls.{startArguments, stepArguments}
-use Rattle.cycle.specs.Run.{Call, clear, start, program, drift, line, lookup, step, followed}
+use Rattle.cycle.specs.Run.{Call, clear, start, program, ask, commit, drift, line, lookup, step, followed}
 
 -- the log's cycle: none, open or ended
 pub data Course : Type 0 where
@@ -44,12 +44,12 @@ blank s =
       changed = false;
     }
 
--- a program that is taken: both forms of the row become the k levels and then the check cells that make them sound; cycle none, count 0
-abbrev pub logProgram : Shape → ℕ → List ℕ → Log → Log
-logProgram s row given l =
+-- a program or a commit that is taken: both forms of the row become these n levels; cycle none, count 0
+abbrev pub logWritten : ℕ → List ℕ → Log → Log
+logWritten row cells l =
     record {
-      written = set (l .written) row (encode s given);
-      standing = set (l .standing) row (encode s given);
+      written = set (l .written) row cells;
+      standing = set (l .standing) row cells;
       lines = l .lines;
       course = none;
       skip = 0;
@@ -124,11 +124,14 @@ whileOpen none taken refused = refused
 whileOpen open-cycle taken refused = taken
 whileOpen ended taken refused = refused
 
--- the log after a call; a call whose arguments fail a question is refused: no change
+-- the log after a call; a call whose arguments fail a question is refused: no change. A program writes the k levels and then the check cells that make them
+-- sound, a commit the n levels that it is given.
 abbrev pub logCall : Shape → Log → Call → Log
 logCall s l clear = blank s
 logCall s l (start z) = ifTaken (firstNo (startArguments s z)) (logStart z l) l
-logCall s l (program row given) = ifTaken (firstNo (programArguments s row given)) (logProgram s row given l) l
+logCall s l (program row given) = ifTaken (firstNo (programArguments s row given)) (logWritten row (encode s given) l) l
+logCall s l (ask row given buffer) = l
+logCall s l (commit row finished) = ifTaken (firstNo (commitArguments s row finished)) (logWritten row finished l) l
 logCall s l (drift row column level) = ifTaken (firstNo (driftArguments s row column level)) (logDrift row column level l) l
 logCall s l (line row byte) = ifTaken (firstNo (lineArguments s row byte)) (logLine row byte l) l
 logCall s l (lookup inputs matches) = l

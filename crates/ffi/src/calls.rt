@@ -8,7 +8,7 @@ ghost use mathlib.Core.List.{[]};
 ghost use Rattle.shape.specs.Answers.{giving};
 ghost use Rattle.shape.specs.Lent.{was, left};
 ghost use Rattle.array_memory.specs.Memory.{Memory, withCells, withRows, withAll};
-ghost use Rattle.cycle.specs.Calls.{clearCall, programCall, startCall, stepCall};
+ghost use Rattle.cycle.specs.Calls.{clearCall, programCall, commitCall, startCall, stepCall};
 ghost use Rattle.cycle_run.specs.Cycles.{cycleCall};
 ghost use Rattle.ffi_words.specs.Words.{storedOf, onWords};
 ghost use Rattle.ffi.specs.Numbers.{telling};
@@ -48,6 +48,22 @@ pub extern "C" fn jorivelune_program(
 {
     let cycle = cycle_of(words);
     store(words, cycle.program(shape, cells, row, given))
+}
+
+// Commit: writes a finished row of n cells, as ask gives it; the record becomes idle.
+#[no_mangle]
+pub extern "C" fn jorivelune_commit(
+    words: &mut [usize; 7],
+    shape: Shape,
+    cells: &mut [u8],
+    row: usize,
+    finished: &[u8],
+) -> u8
+    ensures { λ r. ⌜ ((mem : Memory) → onWords (λ st. commitCall shape st row (was finished)) (withCells (was cells) mem) (was words)
+        ≡ giving (telling r 0) [] (storedOf (withCells (left cells) mem) (left words))) ⌝ }
+{
+    let cycle = cycle_of(words);
+    store(words, cycle.commit(shape, cells, row, finished))
 }
 
 // Start: counters, flags and totals 0, record open, count 0, its opening next, also when a cycle was open. The cycle skips a

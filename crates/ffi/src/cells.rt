@@ -1,5 +1,5 @@
-// The calls without the record: on cells and lines, and on one lent row. A refused call leaves every buffer as it was.
-use acam::encode::encode_row;
+// The calls without the record: on cells and lines. A refused call leaves every buffer as it was.
+use array::ask::ask;
 use array::cells::read;
 use array::cells::sound;
 use array::change::drift;
@@ -15,9 +15,8 @@ ghost use mathlib.Core.Path.{_≡_};
 ghost use mathlib.Core.List.{[]};
 ghost use Rattle.shape.specs.Answers.{outcomeSays, giving};
 ghost use Rattle.shape.specs.Lent.{was, left};
-ghost use Rattle.acam.specs.Rows.{encodeCall};
 ghost use Rattle.array_memory.specs.Memory.{Memory, withCells, withLines, withArray};
-ghost use Rattle.array.specs.Calls.{driftCall, lineCall, readCall, soundCall};
+ghost use Rattle.array.specs.Calls.{askCall, driftCall, lineCall, readCall, soundCall};
 ghost use Rattle.array_lookup.specs.Lookups.{lookupCall, firstCall};
 ghost use Rattle.ffi.specs.Numbers.{telling, foundSays};
 
@@ -63,12 +62,30 @@ pub extern "C" fn jorivelune_read(shape: Shape, cells: &[u8], row: usize, out: &
     number_of(read(shape, cells, row, out))
 }
 
-// Encode: writes the check cells of one row of n cells from its first k.
+// Ask: the finished row of these levels goes to `finished`, and the number of its cells that differ from the row as it
+// stands to `changed`, 0 where the call is refused.
 #[no_mangle]
-pub extern "C" fn jorivelune_encode(shape: Shape, row: &mut [u8]) -> u8
-    ensures { λ r. ⌜ encodeCall shape (was row) ≡ giving (telling r 0) [] (left row) ⌝ }
+pub extern "C" fn jorivelune_ask(
+    shape: Shape,
+    cells: &[u8],
+    row: usize,
+    given: &[u8],
+    finished: &mut [u8],
+    changed: &mut usize,
+) -> u8
+    ensures { λ r. ⌜ ((mem : Memory) → askCall shape (withCells (was cells) mem) row (was given) (was finished)
+        ≡ giving (telling r (left changed)) (left finished) (withCells (was cells) mem)) ⌝ }
 {
-    number_of(encode_row(shape, row))
+    match ask(shape, cells, row, given, finished) {
+        Answer::Is(number) => {
+            *changed = number;
+            0
+        }
+        Answer::Refused(number) => {
+            *changed = 0;
+            number
+        }
+    }
 }
 
 // Task lookup: one match byte per row; the number of matches goes to `count`, 0 where the call is refused.

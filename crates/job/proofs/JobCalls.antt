@@ -5,6 +5,7 @@ use mathlib.Core.List.{List, [], _∷_, _++_}
 use Prim.Native.Nat.{ℕ, zero, suc}
 use lib.ListN.{length, replicate, length-replicate}
 use borrow.Author.Tests.{eq-eqb}
+use Rattle.parity.specs.Codeword.{encode}
 use Rattle.parity.specs.Matrix.{cycleSteps}
 use Rattle.parity.specs.Questions.{firstNo, ifTaken, Taken}
 use Rattle.parity.specs.declared.Shape.{Shape}
@@ -13,7 +14,7 @@ use Rattle.shape.specs.Answers.{accepted, refused, giving, calling}
 use Rattle.shape.proofs.Calling.{call-done}
 use Rattle.array_memory.specs.Memory.{Memory, withArray, withAll, noMemory, Sized}
 use Rattle.array_memory.specs.Questions.{cellsQuestions, programArguments}
-use Rattle.array.specs.Calls.{programmed}
+use Rattle.array.specs.Calls.{rowWritten}
 use Rattle.cycle_lookup.specs.Lookup.{entryMatches}
 use Rattle.cycle.specs.Record.{idle}
 use Rattle.cycle.specs.Calls.{State, stateOf, zeroRows, cleared, fresh, clearQuestions, clearCall, programCall, lentQuestions}
@@ -40,7 +41,7 @@ module _ (s : Shape) where
     where
       still :
           (n m : ℕ)
-          → ifTaken n (giving (accepted 0) [] (stateOf (programmed s mem row given) idle)) (giving (refused 0 m) [] (stateOf mem idle)) .state .cycle ≡ idle
+          → ifTaken n (giving (accepted 0) [] (stateOf (rowWritten s mem row (encode s given)) idle)) (giving (refused 0 m) [] (stateOf mem idle)) .state .cycle ≡ idle
       still zero m = refl
       still (suc n) m = refl
 

@@ -13,14 +13,14 @@ use Rattle.array_memory.specs.Blocks.{blocksOf, blockAt, countFlagged, blockTot
 use Rattle.array_memory.specs.Memory.{Memory, withArray, noMemory}
 use Rattle.array_memory.proofs.BlockPlaces.{block-low, block-flag}
 use Rattle.array_memory.proofs.FlagCounts.{zero-count}
-use Rattle.array.specs.Calls.{programmed, drifted, driftCall, lineSet, lineCall}
+use Rattle.array.specs.Calls.{rowWritten, askCall, drifted, driftCall, lineSet, lineCall}
 use Rattle.array_lookup.specs.Lookups.{lookupCall}
 use Rattle.schedule.specs.Schedule.{Entry}
 use Rattle.cycle_lookup.specs.Lookup.{flaggedRows, lookedUp}
 use Rattle.cycle_lookup.proofs.Passes.{flags-kept, totals-kept, totals-counted}
 use Rattle.cycle.specs.Record.{nextEntry}
-use Rattle.cycle.specs.Calls.{State, zeroRows, cleared, fresh, clearCall, programCall, started, startCall, steppedMemory, stepped, stepCall}
-use Rattle.cycle.specs.Run.{Call, clear, start, program, drift, line, lookup, step, after, run}
+use Rattle.cycle.specs.Calls.{State, zeroRows, cleared, fresh, clearCall, programCall, commitCall, started, startCall, steppedMemory, stepped, stepCall}
+use Rattle.cycle.specs.Run.{Call, clear, start, program, ask, commit, drift, line, lookup, step, after, run}
 use Rattle.cycle.proofs.Runs.{keepClaim}
 use Rattle.panel.specs.Claims.{TotalsClaim}
 
@@ -69,10 +69,12 @@ module _ (s : Shape) where
       go false e = sym (totals-kept s entry (st .memory) e) ∙ t .counted ∙ ap blockTotals (flags-kept s entry (st .memory) e (t .sized))
 
   keeps : (st : State) (c : Call) → Totalled s (st .memory) → Totalled s (after s st c .memory)
-  unfolding clearCall cleared programCall programmed startCall started driftCall drifted lineCall lineSet lookupCall stepCall stepped
+  unfolding clearCall cleared programCall commitCall rowWritten startCall started askCall driftCall drifted lineCall lineSet lookupCall stepCall stepped
   keeps st clear t = call-keeps _ _ st _ (λ st. Totalled s (st .memory)) t (array-apart s _ (zeroed (st .memory)) _ _)
   keeps st (start z) t = call-keeps _ _ st _ (λ st. Totalled s (st .memory)) t (zeroed (st .memory))
   keeps st (program row given) t = call-keeps _ _ st _ (λ st. Totalled s (st .memory)) t (array-apart s (st .memory) t _ _)
+  keeps st (ask row given buffer) t = call-keeps _ _ (st .memory) _ (Totalled s) t t
+  keeps st (commit row finished) t = call-keeps _ _ st _ (λ st. Totalled s (st .memory)) t (array-apart s (st .memory) t _ _)
   keeps st (drift row column level) t = call-keeps _ _ (st .memory) _ (Totalled s) t (array-apart s (st .memory) t _ _)
   keeps st (line row byte) t = call-keeps _ _ (st .memory) _ (Totalled s) t (array-apart s (st .memory) t _ _)
   keeps st (lookup inputs matches) t = call-keeps _ _ (st .memory) _ (Totalled s) t t

@@ -230,7 +230,7 @@ among-keep c p (x ∷ xs) e (suc i, l, q) = go (p x) (among-keep c p xs e (i, le
     go true a = (suc (a .0), suc-le-suc (a .1), a .2)
     go false a = a
 
--- ---- two lists that differ nowhere are equal
+-- ---- in how many places two lists differ: where in none, they are equal
 
 pub differences-zero : (xs ys : List ℕ) → differences xs ys ≡ 0 → xs ≡ ys
 differences-zero [] [] e = refl
@@ -241,3 +241,19 @@ differences-zero (x ∷ xs) (y ∷ ys) e = go (differences-zero xs ys) (eqb x y)
     go : (differences xs ys ≡ 0 → xs ≡ ys) → (b : Bool) → eqb x y ≡ b → cond b (differences xs ys) (suc (differences xs ys)) ≡ 0 → x ∷ xs ≡ y ∷ ys
     go rest true q d = ap₂ (λ (z : ℕ) (zs : List ℕ). z ∷ zs) (eqb-true x y q) (rest d)
     go rest false q d = absurd (omega arith)
+
+-- one place more of both
+pub differences-next :
+    (xs ys : List ℕ) (i : ℕ) → i < length xs → i < length ys → (b : Bool) → eqb (getD xs i 0) (getD ys i 0) ≡ b
+    → differences (take (suc i) xs) (take (suc i) ys) ≡ differences (take i xs) (take i ys) + cond b 0 1
+differences-next [] ys i h k b e = absurd (not-suc-le-zero h)
+differences-next (x ∷ xs) [] i h k b e = absurd (not-suc-le-zero k)
+differences-next (x ∷ xs) (y ∷ ys) zero h k b e = ap more e ∙ sym (zero-add (more b))
+  where
+    more : Bool → ℕ
+    more t = cond t 0 1
+differences-next (x ∷ xs) (y ∷ ys) (suc i) h k b e = go (eqb x y) _ _ _ (differences-next xs ys i (le-of-suc-le-suc h) (le-of-suc-le-suc k) b e)
+  where
+    go : (t : Bool) (old new more : ℕ) → new ≡ old + more → cond t new (suc new) ≡ cond t old (suc old) + more
+    go true old new more same = same
+    go false old new more same = omega arith

@@ -6,6 +6,7 @@ use Prim.Native.Nat.{ℕ, zero, suc}
 use lib.Dec.{leb, ltb, eqb}
 use Rattle.parity.specs.Lists.{every}
 use Rattle.parity.specs.Shape.{levels, limit}
+use Rattle.parity.specs.Codeword.{isCodeword}
 use Rattle.parity.specs.declared.Shape.{Shape}
 
 -- a question: the number that a no gives, and whether the answer is yes
@@ -81,6 +82,10 @@ inputsQuestion s inputs = record { number = 8; holds = every (λ v. ltb v (level
 -- 16: is a line byte to set 0, sound, or 1, dead?
 abbrev pub lineQuestion : ℕ → Question
 lineQuestion byte = record { number = 16; holds = leb byte 1 }
+
+-- 17: is a finished row sound?
+abbrev pub soundQuestion : Shape → List ℕ → Question
+soundQuestion s row = record { number = 17; holds = isCodeword s row }
 
 -- The questions of a call, in their order: those on the shape; on further numbers; 6 on the lengths of what is lent; and the call's own.
 abbrev pub callQuestions : Shape → List Question → List Question → List Question → List Question

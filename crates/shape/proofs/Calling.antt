@@ -1,6 +1,7 @@
 -- A call by the number of its first no: where there is one, that refusal with all as it was; where there is none, what the call does.
 -- Assumes nothing.
-use mathlib.Core.Path.{_≡_, refl, ap, _∙_}
+use mathlib.Core.Path.{_≡_, refl, sym, ap, _∙_}
+use mathlib.Core.Bool.{true, true≢false}
 use mathlib.Core.List.{List}
 use Prim.Native.Nat.{ℕ, zero, suc, _<_}
 use native.Mathlib.Omega.{arith}
@@ -26,6 +27,15 @@ module _ {S : Type 0} (questions : List Question) (bytes : List ℕ) (state : S)
   pub call-done : firstNo questions ≡ 0 → calling questions bytes state done ≡ done
   unfolding calling
   call-done none = ap (λ n. ifTaken n done (giving (refused 0 n) bytes state)) none
+
+  -- a call that says that it is taken has no no
+  pub call-taken : calling questions bytes state done .said .taken ≡ true → firstNo questions ≡ 0
+  unfolding calling
+  call-taken = go (firstNo questions)
+    where
+      go : (n : ℕ) → ifTaken n done (giving (refused 0 n) bytes state) .said .taken ≡ true → n ≡ 0
+      go zero e = refl
+      go (suc n) e = absurd (true≢false (sym e))
 
   -- what holds of the state that a call finds and of the one that it makes holds of the one that it leaves, taken or refused
   pub call-keeps : (P : S → Type 0) → P state → P (done .state) → P (calling questions bytes state done .state)

@@ -50,6 +50,11 @@ first-found (q ∷ qs) more n pos e = go (q .holds) (first-found qs more n pos) 
     go true rest e = rest e
     go false rest e = e
 
+-- behind the same questions the first no is that of what follows
+pub first-behind : (qs xs ys : List Question) → firstNo xs ≡ firstNo ys → firstNo (qs ++ xs) ≡ firstNo (qs ++ ys)
+first-behind [] xs ys e = e
+first-behind (q ∷ qs) xs ys e = ap (λ n. cond (q .holds) n (q .number)) (first-behind qs xs ys e)
+
 -- ---- what an answer tells of the first no
 
 module _ {A : Type 0} (nothing value : A) where

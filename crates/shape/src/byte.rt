@@ -1,9 +1,9 @@
-// A byte read as a number, bytes filled with one value or copied, and the largest of them.
+// A byte read as a number, bytes filled with one value or copied, the largest of them, and how many differ.
 ghost use mathlib.Core.Path.{_≡_};
 ghost use Prim.Native.Nat.{ℕ, _<_};
 ghost use lib.Dec.{ltb};
 ghost use lib.ListN.{length, replicate};
-ghost use Rattle.parity.specs.Lists.{every, filledFrom};
+ghost use Rattle.parity.specs.Lists.{every, filledFrom, differences};
 ghost use Rattle.shape.specs.Lent.{was, left};
 
 // As a function of its own, so that a byte read from a buffer asks for its place alone.
@@ -52,4 +52,20 @@ pub fn largest(bytes: &[u8]) -> u8
         i += 1;
     }
     most
+}
+
+// In how many places the bytes of two buffers of one length differ.
+pub fn count_differences(one: &[u8], other: &[u8]) -> usize
+    requires { ⌜ length (now one) ≡ length (now other) ⌝ }
+    ensures { λ r. ⌜ r ≡ differences (was one) (was other) ⌝ }
+{
+    let mut count: usize = 0;
+    let mut i: usize = 0;
+    while i < one.len() {
+        if one[i] != other[i] {
+            count += 1;
+        }
+        i += 1;
+    }
+    count
 }

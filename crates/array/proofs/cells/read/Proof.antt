@@ -1,6 +1,6 @@
--- `array::cells::read` meets its contract: `check_row` asks, and the rule cells of the row fill the bytes out. Assumes nothing.
-use mathlib.Core.Path.{_≡_, sym, ap, _∙_}
-use mathlib.Core.List.{List}
+-- `array::cells::read` meets its contract: `check_cells` and `check_row` ask, and the rule cells of the row fill the bytes out. Assumes nothing.
+use mathlib.Core.Path.{_≡_, refl, sym, ap, _∙_}
+use mathlib.Core.List.{List, []}
 use Prim.Native.Nat.{ℕ, _+_, _-_, _*_, _≤_}
 use native.Mathlib.Omega.{arith}
 use lib.ListN.{length, take}
@@ -9,10 +9,11 @@ use borrow.Author.Needs.{needs}
 use borrow.Rule.Slice.PartMut.{midOf}
 use Rattle.parity.specs.Lists.{filledFrom}
 use Rattle.parity.specs.Shape.{columns}
-use Rattle.parity.specs.Questions.{Question}
+use Rattle.parity.specs.Questions.{Question, firstNo}
 use Rattle.parity.proofs.Filled.{filledFrom-whole}
 use Rattle.shape.specs.Answers.{accepted, giving}
-use Rattle.shape.proofs.Refusals.{told, Passes, passes, fails}
+use Rattle.shape.specs.Shapes.{checkedSays, sizesIf}
+use Rattle.shape.proofs.Refusals.{told, Passes, passes, fails, answer-then}
 use Rattle.shape.proofs.Calling.{call-refused, call-done}
 use Rattle.array_memory.specs.Geometry.{rowAt}
 use Rattle.array_memory.specs.Memory.{withCells}
@@ -27,15 +28,28 @@ abbrev questions : tie.Start → List Question
 questions c = cellsQuestions (c .args .shape) (length (c .args .cells .now)) (rowArguments (c .args .shape) (length (c .args .out .now)) (c .args .row))
 
 -- the places of the call and of the sizes, each from one that follows
+abbrev entry : tie.After-check-row → tie.Start
+entry c = c .before .before .before .before
+
 abbrev begun : tie.After-sizes → tie.Start
-begun c = c .before .before .before .before .before
+begun c = entry (c .before .before)
 
 abbrev sized : tie.After-slice-known2 → tie.After-sizes
 sized c = c .before .before .before .before .before .before
 
+-- what is answered to all the questions
+answered : (c : tie.After-check-row) → checkedSays (c .check-row .result) ≡ sizesIf (firstNo (questions (entry c))) (entry c .args .shape)
+answered c =
+    let start = entry c in
+    let s = start .args .shape in
+    let cells = c .before .check-cells in
+    let own = rowArguments s (length (start .args .out .now)) (start .args .row) in
+    c .check-row .ensures
+    ∙ answer-then (cellsQuestions s (length (start .args .cells .now)) []) own s (cells .result) refl (cells .ensures)
+
 module _ (c : tie.After-sizes) where
   asked : Passes (questions (begun c)) (begun c .args .shape) (c .sizes .given .0 .0)
-  asked = passes _ _ _ (told (c .before .before .check-row .ensures) (c .sizes .given .1))
+  asked = passes _ _ _ (told (answered (c .before .before)) (c .sizes .given .1))
 
   given : let args = begun c .args in RowTaken (args .shape) (length (args .cells .now)) (length (args .out .now)) (args .row)
   given = let args = begun c .args in row-taken (args .shape) (length (args .cells .now)) (length (args .out .now)) (args .row) (asked .none)
@@ -72,6 +86,9 @@ module _ (c : tie.After-sizes) where
       ∙ filledFrom-whole rule (begun c .args .out .now)
       (length-take-le (s .width) (rowAt (columns s) cells row) enough ∙ sym (given .part))
 
+check-cells-requires : tie.Need-check-cells-requires
+check-cells-requires c κs = search needs
+
 check-row-requires : tie.Need-check-row-requires
 check-row-requires c κs = search needs
 
@@ -103,10 +120,10 @@ returns : tie.Need-returns
 unfolding readCall
 returns c =
     let check = c .before .before .before in
-    let start = check .before .before .before in
+    let start = entry check in
     let number = c .before .number .given in
     λ mem. call-refused _ (start .args .out .now) (withCells (start .args .cells .now) mem) _ (number .0 .0)
-    (fails (questions start) (start .args .shape) (number .0 .0) (told (check .check-row .ensures) (number .1)))
+    (fails (questions start) (start .args .shape) (number .0 .0) (told (answered check) (number .1)))
 
 same-length : tie.Need-same-length
 same-length c = search needs
@@ -123,6 +140,7 @@ pub read-spec : {M : Type 1} → statement M
 read-spec =
     tie.close
     (tie.spec
+    check-cells-requires
     check-row-requires
     enum-known-number
     enum-known-sizes

@@ -1,4 +1,4 @@
--- `array::cells::sound` meets its contract: `check_row` asks, and the part that is lent is a row of the array. Assumes nothing.
+-- `array::cells::sound` meets its contract: `check_cells` and `check_row` ask, and the part that is lent is a row of the array. Assumes nothing.
 use mathlib.Core.Path.{_≡_, refl, sym, ap, _∙_}
 use mathlib.Core.Bool.{Bool, true, false}
 use mathlib.Core.List.{List, [], _∷_}
@@ -12,7 +12,8 @@ use Rattle.parity.specs.Shape.{columns}
 use Rattle.parity.specs.Codeword.{isCodeword}
 use Rattle.parity.specs.Questions.{Question, firstNo, placeQuestion}
 use Rattle.shape.specs.Answers.{accepted, refused, answering}
-use Rattle.shape.proofs.Refusals.{told, Passes, passes, fails}
+use Rattle.shape.specs.Shapes.{checkedSays, sizesIf}
+use Rattle.shape.proofs.Refusals.{told, Passes, passes, fails, answer-then}
 use Rattle.shape.proofs.Calling.{if-no}
 use Rattle.array_memory.specs.Geometry.{rowAt}
 use Rattle.array_memory.specs.Questions.{cellsQuestions, rowArguments}
@@ -33,15 +34,27 @@ no-part : (c : tie.Start) → firstNo (questions c) ≡ firstNo (ownQuestions c)
 no-part c = rw (eq-eqb (c .args .shape .width) (c .args .shape .width) refl) refl
 
 -- the places of the call and of the sizes, each from one that follows
+abbrev entry : tie.After-check-row → tie.Start
+entry c = c .before .before .before
+
 abbrev begun : tie.After-sizes → tie.Start
-begun c = c .before .before .before .before
+begun c = entry (c .before .before)
 
 abbrev sized : tie.After-is-sound → tie.After-sizes
 sized c = c .before .before .before .before .before
 
+-- what is answered to all the questions
+answered : (c : tie.After-check-row) → checkedSays (c .check-row .result) ≡ sizesIf (firstNo (questions (entry c))) (entry c .args .shape)
+answered c =
+    let start = entry c in
+    let s = start .args .shape in
+    let cells = c .before .check-cells in
+    c .check-row .ensures
+    ∙ answer-then (cellsQuestions s (length (start .args .cells .now)) []) (rowArguments s (s .width) (start .args .row)) s (cells .result) refl (cells .ensures)
+
 module _ (c : tie.After-sizes) where
   asked : Passes (questions (begun c)) (begun c .args .shape) (c .sizes .given .0 .0)
-  asked = passes _ _ _ (told (c .before .before .check-row .ensures) (c .sizes .given .1))
+  asked = passes _ _ _ (told (answered (c .before .before)) (c .sizes .given .1))
 
   given : let args = begun c .args in RowTaken (args .shape) (length (args .cells .now)) (args .shape .width) (args .row)
   given = row-taken _ _ _ _ (asked .none)
@@ -70,6 +83,9 @@ module _ (c : tie.After-sizes) where
       let s = begun c .args .shape in
       ap (λ n. answering false n (isCodeword s row)) (sym (no-part (begun c)) ∙ asked .none)
       ∙ ap accepted (sym (e ∙ ap (isCodeword s) (row-part (begun c .args .cells .now) (begun c .args .row) (columns s) _ wide)))
+
+check-cells-requires : tie.Need-check-cells-requires
+check-cells-requires c κs = search needs
 
 check-row-requires : tie.Need-check-row-requires
 check-row-requires c κs = search needs
@@ -115,10 +131,10 @@ returns-2 : tie.Need-returns-2
 unfolding soundCall
 returns-2 c =
     let check = c .before .before .before in
-    let start = check .before .before in
+    let start = entry check in
     let holds = isCodeword (start .args .shape) (rowAt (columns (start .args .shape)) (start .args .cells .now) (start .args .row)) in
     let number = c .before .number .given in
-    let found = fails (questions start) (start .args .shape) (number .0 .0) (told (check .check-row .ensures) (number .1)) in
+    let found = fails (questions start) (start .args .shape) (number .0 .0) (told (answered check) (number .1)) in
     λ mem. ap (λ n. answering false n holds) (sym (no-part start) ∙ found .0)
     ∙ if-no (number .0 .0) (found .1) (accepted holds) (refused false (number .0 .0))
 
@@ -130,6 +146,7 @@ pub sound-spec : {M : Type 1} → statement M
 sound-spec =
     tie.close
     (tie.spec
+    check-cells-requires
     check-row-requires
     enum-known-number
     enum-known-sizes

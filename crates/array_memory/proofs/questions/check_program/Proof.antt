@@ -1,28 +1,42 @@
 -- `array_memory::questions::check_program` meets its contract: what `check_row` asks, then 8. Assumes nothing.
-use mathlib.Core.Path.{refl, ap, _∙_}
-use mathlib.Core.List.{List, [], _∷_}
+use mathlib.Core.Path.{_≡_, refl, ap, subst, _∙_}
+use mathlib.Core.List.{List, [], _∷_, _++_}
 use lib.ListN.{length}
 use borrow.Author.Needs.{needs}
 use borrow.Author.Tests.{not-true, not-false}
+use Rattle.parity.specs.Shape.{levels}
 use Rattle.parity.specs.Questions.{Question, levelsQuestion}
-use Rattle.shape.proofs.Refusals.{told, Passes, passes, then-refused, then-number, then-sizes, levels-tested}
-use Rattle.array_memory.specs.Questions.{cellsQuestions, rowArguments}
+use Rattle.shape.specs.Shapes.{thenSays, TellsOf}
+use Rattle.shape.proofs.Refusals.{behind-refusal, behind-number, behind-sizes, behind-both, behind-tells, levels-tested}
+use Rattle.array_memory.specs.Questions.{rowArguments}
 use Rattle.array_memory.proofs.questions.check_program.Statement.{statement}
 use Rattle.array_memory.proofs.questions.check_program.Tie as tie
 
--- what was asked before, and what is asked here
+-- what is asked before, and what is asked here
 abbrev first : tie.Start → List Question
-first c = cellsQuestions (c .args .shape) (c .args .cells) (rowArguments (c .args .shape) (length (c .args .given .now)) (c .args .row))
+first c = rowArguments (c .args .shape) (length (c .args .given .now)) (c .args .row)
 
 abbrev more : tie.Start → List Question
 more c = levelsQuestion (c .args .shape) (c .args .given .now) ∷ []
 
--- the call's arguments, from the place where the sizes are known
-abbrev begun : tie.After-sizes → tie.Start
-begun c = c .before .before .before .before
+-- the call's arguments, from the answer to the row
+abbrev begun : tie.After-check-row → tie.Start
+begun c = c .before .before
 
-row-taken : (c : tie.After-sizes) → Passes (first (begun c)) (begun c .args .shape) (c .sizes .given .0 .0)
-row-taken c = passes _ _ _ (told (c .before .before .check-row .ensures) (c .sizes .given .1))
+-- the one behind the other
+behind :
+    (c : tie.After-check-row)
+    → thenSays (c .check-row .result) (more (begun c)) ≡ thenSays (begun c .args .asked) (first (begun c) ++ more (begun c))
+behind c = behind-both (begun c .args .asked) (c .check-row .result) (first (begun c)) (more (begun c)) refl (c .check-row .ensures)
+
+-- the levels that the code asks for are q
+known : (c : tie.After-sizes) → c .sizes .given .0 .0 .levels ≡ levels (begun (c .before .before) .args .shape)
+known c =
+    let row = c .before .before in
+    let start = begun row in
+    let s = start .args .shape in
+    let tells = behind-tells s (start .args .asked) (row .check-row .result) (first start) (row .check-row .ensures) (start .pre) in
+    ap (λ z. z .levels) (subst (TellsOf s) (c .sizes .given .1) tells .1)
 
 check-row-requires : tie.Need-check-row-requires
 check-row-requires c κs = search needs
@@ -39,27 +53,24 @@ all-below-requires c κs = search needs
 returns : tie.Need-returns
 returns c =
     let sizes = c .before .before .before in
-    let start = begun sizes in
-    let s = start .args .shape in
-    let p = row-taken sizes in
-    let test = levels-tested s (ap (λ z. z .levels) (p .sizes)) (start .args .given .now) (c .before .all-below .ensures) in
-    then-number (first start) (more start) s refl (p .none) 7 (rw (test ∙ not-true _ (c .if1 .taken)) refl)
+    let start = begun (sizes .before .before) in
+    let test = levels-tested (start .args .shape) (known sizes) (start .args .given .now) (c .before .all-below .ensures) in
+    behind-number (sizes .sizes .given .1) (more start) 7 (rw (test ∙ not-true _ (c .if1 .taken)) refl)
+    ∙ behind (sizes .before .before)
 
 returns-2 : tie.Need-returns-2
 returns-2 c =
-    let check = c .before .before .before in
-    let start = check .before .before in
-    let number = c .before .number .given in
-    then-refused (first start) (more start) (start .args .shape) (number .0 .0) (told (check .check-row .ensures) (number .1))
+    let asked = c .before .before .before in
+    behind-refusal (c .before .number .given .1) (more (begun asked))
+    ∙ behind asked
 
 returns-3 : tie.Need-returns-3
 returns-3 c =
     let sizes = c .before .before .before in
-    let start = begun sizes in
-    let s = start .args .shape in
-    let p = row-taken sizes in
-    let test = levels-tested s (ap (λ z. z .levels) (p .sizes)) (start .args .given .now) (c .before .all-below .ensures) in
-    then-sizes (first start) (more start) s refl p (rw (test ∙ not-false _ (c .if1 .left)) refl)
+    let start = begun (sizes .before .before) in
+    let test = levels-tested (start .args .shape) (known sizes) (start .args .given .now) (c .before .all-below .ensures) in
+    behind-sizes (sizes .sizes .given .1) (more start) (rw (test ∙ not-false _ (c .if1 .left)) refl)
+    ∙ behind (sizes .before .before)
 
 pub check-program-spec : {M : Type 1} → statement M
 check-program-spec =

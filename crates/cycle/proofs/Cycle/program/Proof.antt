@@ -1,13 +1,14 @@
--- `cycle::Cycle::program` meets its contract: `check_program` asks, and `write_row` writes the row. Assumes nothing.
-use mathlib.Core.Path.{refl, sym}
-use mathlib.Core.List.{List, []}
+-- `cycle::Cycle::program` meets its contract: `check_cells` and `check_program` ask, and `write_row` writes the row. Assumes nothing.
+use mathlib.Core.Path.{_≡_, refl, sym, _∙_}
+use mathlib.Core.List.{List, [], _∷_}
 use lib.ListN.{length}
 use borrow.Author.Needs.{needs}
-use Rattle.parity.specs.Questions.{Question}
-use Rattle.shape.proofs.Refusals.{told, fails, Passes, passes}
-use Rattle.array_memory.specs.Memory.{withCells}
+use Rattle.parity.specs.Questions.{Question, firstNo}
+use Rattle.shape.specs.Shapes.{checkedSays, sizesIf}
+use Rattle.shape.proofs.Refusals.{told, fails, Passes, passes, answer-tells, answer-then}
+use Rattle.array_memory.specs.Memory.{withCells, cellsLength}
 use Rattle.array_memory.specs.Questions.{cellsQuestions, programArguments}
-use Rattle.array.specs.Calls.{programmed}
+use Rattle.array.specs.Calls.{rowWritten}
 use Rattle.cycle.specs.Record.{idle}
 use Rattle.cycle.specs.Calls.{programCall}
 use Rattle.cycle.proofs.Given.{gives-refusal, gives-done}
@@ -17,15 +18,33 @@ use Rattle.cycle.proofs.Cycle.program.Tie as tie
 abbrev questions : tie.Start → List Question
 questions c = cellsQuestions (c .args .shape) (length (c .args .cells .now)) (programArguments (c .args .shape) (c .args .row) (c .args .given .now))
 
--- the call's place, from that where the questions are passed
+-- the call's place, from that of the answer, and from that where the questions are passed
+abbrev entry : tie.After-check-program → tie.Start
+entry c = c .before .before .before .before
+
 abbrev begun : tie.After-sizes → tie.Start
-begun c = c .before .before .before .before .before
+begun c = entry (c .before .before)
+
+-- what is answered to all the questions
+answered : (c : tie.After-check-program) → checkedSays (c .check-program .result) ≡ sizesIf (firstNo (questions (entry c))) (entry c .args .shape)
+answered c =
+    let start = entry c in
+    let s = start .args .shape in
+    let cells = c .before .check-cells in
+    let own = programArguments s (start .args .row) (start .args .given .now) in
+    c .check-program .ensures
+    ∙ answer-then (cellsQuestions s (length (start .args .cells .now)) []) own s (cells .result) refl (cells .ensures)
 
 asked : (c : tie.After-sizes) → Passes (questions (begun c)) (begun c .args .shape) (c .sizes .given .0 .0)
-asked c = passes _ _ _ (told (c .before .before .check-program .ensures) (c .sizes .given .1))
+asked c = passes _ _ _ (told (answered (c .before .before)) (c .sizes .given .1))
+
+check-cells-requires : tie.Need-check-cells-requires
+check-cells-requires c κs = search needs
 
 check-program-requires : tie.Need-check-program-requires
-check-program-requires c κs = search needs
+check-program-requires c κs =
+    let args = c .before .before .before .args in
+    answer-tells (args .shape) (c .check-cells .result) (cellsLength (args .shape) (length (args .cells .now)) ∷ []) (c .check-cells .ensures)
 
 enum-known-number : tie.Need-enum-known-number
 enum-known-number c = search needs
@@ -46,16 +65,16 @@ returns : tie.Need-returns
 unfolding programCall
 returns c =
     let asked = c .before .before .before .before in
-    let start = asked .before .before .before in
+    let start = entry asked in
     let number = c .before .before .number .given in
     λ mem. gives-refusal (questions start) [] (withCells (start .args .cells .now) mem) (start .args .self) _ _ (number .0 .0)
-    (fails (questions start) (start .args .shape) (number .0 .0) (told (asked .check-program .ensures) (number .1))) (c .refused .ensures)
+    (fails (questions start) (start .args .shape) (number .0 .0) (told (answered asked) (number .1))) (c .refused .ensures)
 
 same-length : tie.Need-same-length
 same-length c = search needs
 
 returns-2 : tie.Need-returns-2
-unfolding programCall programmed
+unfolding programCall rowWritten
 returns-2 c =
     let written = c .before .before .before in
     let sizes = written .before .before .before in
@@ -67,6 +86,7 @@ pub program-spec : {M : Type 1} → statement M
 program-spec =
     tie.close
     (tie.spec
+    check-cells-requires
     check-program-requires
     enum-known-number
     refused-requires
