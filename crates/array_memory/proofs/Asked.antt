@@ -17,8 +17,9 @@ use Rattle.parity.proofs.ListLaws.{every-at, every-passes}
 use Rattle.parity.proofs.CodewordTest.{codeword-test}
 use Rattle.parity.proofs.Taken.{first-yes}
 use Rattle.shape.specs.declared.sizes.Sizes.{Sizes}
-use Rattle.shape.specs.Shapes.{sizesOf}
-use Rattle.shape.proofs.Refusals.{first-none, taken-rest}
+use Rattle.shape.specs.declared.sizes.Checked.{Checked}
+use Rattle.shape.specs.Shapes.{sizesOf, checkedSays, sizesIf, thenSays}
+use Rattle.shape.proofs.Refusals.{numbered, first-none, taken-rest, answer-then}
 use Rattle.array_memory.specs.Blocks.{blocks}
 use Rattle.array_memory.specs.Memory.{Memory, withArray, RowsSized, Sized, cellCount, cellsLength, linesLength}
 use Rattle.array_memory.specs.Memory.{flagsLengths, rowsQuestions, memoryQuestions}
@@ -48,6 +49,13 @@ module _ (s : Shape) (cells : ℕ) where
 
   pub cells-rest : CellsTaken s cells → (own : List Question) → firstNo (cellsQuestions s cells own) ≡ firstNo own
   cells-rest p own = taken-rest s (p .taken) (cellsLength s cells ∷ own) ∙ rw (eq-eqb cells (cellCount s) (p .counted)) refl
+
+  -- what is answered, where it is asked behind an answer to the questions before it
+  pub cells-then :
+      (before own : List Question) → numbered before ≡ true → (asked next : Checked)
+      → checkedSays asked ≡ sizesIf (firstNo (cellsQuestions s cells before)) s → checkedSays next ≡ thenSays asked own
+      → checkedSays next ≡ sizesIf (firstNo (cellsQuestions s cells (before ++ own))) s
+  cells-then before own numbers asked next e behind = behind ∙ answer-then (cellsQuestions s cells before) own s asked numbers e
 
 -- ---- a row, and the k bytes that come with it
 pub record RowTaken (s : Shape) (count given row : ℕ) : Type 0 where

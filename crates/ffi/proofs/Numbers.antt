@@ -50,11 +50,11 @@ module _ {S : Type 0} {call : Result S} {bytes : List ℕ} {state : S} (t : Told
   gives : {said : Said ℕ} → call ≡ giving said bytes state → call ≡ giving (telling (said .number) (said .value)) bytes state
   gives e = e ∙ ap (λ said. giving said bytes state) (tells (subst Told (ap (λ r. r .said) e) t) refl)
 
-  -- by a count
+  -- by the number and the value
   pub gives-count :
-      {known answer : Answer} → call ≡ giving (answerSays answer) bytes state → answer ≡ known
-      → call ≡ giving (telling (answerSays known .number) (answerSays known .value)) bytes state
-  gives-count e same = gives (e ∙ ap (λ a. giving (answerSays a) bytes state) same)
+      (a : Answer) {r value : ℕ} → call ≡ giving (answerSays a) bytes state → (r ≡ answerSays a .number) × (value ≡ answerSays a .value)
+      → call ≡ giving (telling r value) bytes state
+  gives-count a e told = gives e ∙ sym (λ i. giving (telling (told .0 i) (told .1 i)) bytes state)
 
   -- by the number alone
   pub gives-number :

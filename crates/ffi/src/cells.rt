@@ -13,7 +13,7 @@ use shape::answer::Outcome;
 use shape::answer::Verdict;
 ghost use mathlib.Core.Path.{_≡_};
 ghost use mathlib.Core.List.{[]};
-ghost use Rattle.shape.specs.Answers.{outcomeSays, giving};
+ghost use Rattle.shape.specs.Answers.{answerSays, outcomeSays, giving};
 ghost use Rattle.shape.specs.Lent.{was, left};
 ghost use Rattle.array_memory.specs.Memory.{Memory, withCells, withLines, withArray};
 ghost use Rattle.array.specs.Calls.{askCall, driftCall, lineCall, readCall, soundCall};
@@ -26,6 +26,23 @@ fn number_of(outcome: Outcome) -> u8
     match outcome {
         Outcome::Done => 0,
         Outcome::Refused(number) => number,
+    }
+}
+
+// The number of an answer, whose value goes behind the pointer: 0 where the call is refused.
+fn tell(answer: Answer, value: &mut usize) -> u8
+    ensures numbered { λ r. ⌜ r ≡ answerSays answer .number ⌝ }
+    ensures valued { λ _. ⌜ left value ≡ answerSays answer .value ⌝ }
+{
+    match answer {
+        Answer::Is(number) => {
+            *value = number;
+            0
+        }
+        Answer::Refused(number) => {
+            *value = 0;
+            number
+        }
     }
 }
 
@@ -76,16 +93,7 @@ pub extern "C" fn jorivelune_ask(
     ensures { λ r. ⌜ ((mem : Memory) → askCall shape (withCells (was cells) mem) row (was given) (was finished)
         ≡ giving (telling r (left changed)) (left finished) (withCells (was cells) mem)) ⌝ }
 {
-    match ask(shape, cells, row, given, finished) {
-        Answer::Is(number) => {
-            *changed = number;
-            0
-        }
-        Answer::Refused(number) => {
-            *changed = 0;
-            number
-        }
-    }
+    tell(ask(shape, cells, row, given, finished), changed)
 }
 
 // Task lookup: one match byte per row; the number of matches goes to `count`, 0 where the call is refused.
@@ -101,16 +109,7 @@ pub extern "C" fn jorivelune_lookup(
     ensures { λ r. ⌜ ((mem : Memory) → lookupCall shape (withArray (was cells) (was lines) mem) (was inputs) (was matches)
         ≡ giving (telling r (left count)) (left matches) (withArray (was cells) (was lines) mem)) ⌝ }
 {
-    match lookup(shape, cells, lines, inputs, matches) {
-        Answer::Is(number) => {
-            *count = number;
-            0
-        }
-        Answer::Refused(number) => {
-            *count = 0;
-            number
-        }
-    }
+    tell(lookup(shape, cells, lines, inputs, matches), count)
 }
 
 // First match: the first matching row goes to `found`, m where there is none, 0 where the call is refused.

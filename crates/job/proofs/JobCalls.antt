@@ -40,8 +40,8 @@ module _ (s : Shape) where
       ap (λ r. r .state) e ∙ ap (stateOf last) (sym (ap (λ r. r .state .cycle) e) ∙ still asked asked)
     where
       still :
-          (n m : ℕ)
-          → ifTaken n (giving (accepted 0) [] (stateOf (rowWritten s mem row (encode s given)) idle)) (giving (refused 0 m) [] (stateOf mem idle)) .state .cycle ≡ idle
+          (n m : ℕ) → let done = giving (accepted 0) [] (stateOf (rowWritten s mem row (encode s given)) idle) in
+          ifTaken n done (giving (refused 0 m) [] (stateOf mem idle)) .state .cycle ≡ idle
       still zero m = refl
       still (suc n) m = refl
 

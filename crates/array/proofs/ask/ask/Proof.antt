@@ -12,13 +12,13 @@ use Rattle.parity.specs.Questions.{Question, firstNo}
 use Rattle.parity.proofs.Encoding.{encode-sized}
 use Rattle.shape.specs.Answers.{accepted, giving}
 use Rattle.shape.specs.Shapes.{checkedSays, sizesIf}
-use Rattle.shape.proofs.Refusals.{told, Passes, passes, fails, answer-tells, answer-then}
+use Rattle.shape.proofs.Refusals.{told, Passes, passes, fails, answer-tells}
 use Rattle.shape.proofs.Calling.{call-refused, call-done}
 use Rattle.array_memory.specs.Memory.{withCells, cellsLength}
 use Rattle.array_memory.specs.Questions.{cellsQuestions, finishedLength, programArguments, askArguments}
 use Rattle.array.specs.Calls.{askCall}
 use Rattle.array_memory.proofs.RowPlaces.{row-part, part-sized}
-use Rattle.array_memory.proofs.Asked.{CellsTaken, cells-parts, Programs, ask-reads, cells-bound, row-within}
+use Rattle.array_memory.proofs.Asked.{CellsTaken, cells-parts, cells-then, Programs, ask-reads, cells-bound, row-within}
 use Rattle.array.proofs.ask.ask.Statement.{statement}
 use Rattle.array.proofs.ask.ask.Tie as tie
 
@@ -40,10 +40,9 @@ answered : (c : tie.After-check-program) → checkedSays (c .check-program .resu
 answered c =
     let start = entry c in
     let s = start .args .shape in
-    let before = c .before .check-finished in
-    c .check-program .ensures
-    ∙ answer-then (cellsQuestions s (length (start .args .cells .now)) (finishedLength s (length (start .args .finished .now)) ∷ []))
-    (programArguments s (start .args .row) (start .args .given .now)) s (before .result) refl (before .ensures)
+    cells-then s (length (start .args .cells .now)) (finishedLength s (length (start .args .finished .now)) ∷ [])
+    (programArguments s (start .args .row) (start .args .given .now)) refl
+    (c .before .check-finished .result) (c .check-program .result) (c .before .check-finished .ensures) (c .check-program .ensures)
 
 module _ (c : tie.After-sizes) where
   asked : Passes (questions (begun c)) (begun c .args .shape) (c .sizes .given .0 .0)

@@ -13,13 +13,13 @@ use Rattle.parity.specs.Codeword.{isCodeword}
 use Rattle.parity.specs.Questions.{Question, firstNo, placeQuestion}
 use Rattle.shape.specs.Answers.{accepted, refused, answering}
 use Rattle.shape.specs.Shapes.{checkedSays, sizesIf}
-use Rattle.shape.proofs.Refusals.{told, Passes, passes, fails, answer-then}
+use Rattle.shape.proofs.Refusals.{told, Passes, passes, fails}
 use Rattle.shape.proofs.Calling.{if-no}
 use Rattle.array_memory.specs.Geometry.{rowAt}
 use Rattle.array_memory.specs.Questions.{cellsQuestions, rowArguments}
 use Rattle.array.specs.Calls.{soundCall}
 use Rattle.array_memory.proofs.RowPlaces.{row-part, part-sized}
-use Rattle.array_memory.proofs.Asked.{RowTaken, row-taken, cells-bound, row-within}
+use Rattle.array_memory.proofs.Asked.{cells-then, RowTaken, row-taken, cells-bound, row-within}
 use Rattle.array.proofs.cells.sound.Statement.{statement}
 use Rattle.array.proofs.cells.sound.Tie as tie
 
@@ -48,9 +48,8 @@ answered : (c : tie.After-check-row) → checkedSays (c .check-row .result) ≡ 
 answered c =
     let start = entry c in
     let s = start .args .shape in
-    let cells = c .before .check-cells in
-    c .check-row .ensures
-    ∙ answer-then (cellsQuestions s (length (start .args .cells .now)) []) (rowArguments s (s .width) (start .args .row)) s (cells .result) refl (cells .ensures)
+    cells-then s (length (start .args .cells .now)) [] (rowArguments s (s .width) (start .args .row)) refl
+    (c .before .check-cells .result) (c .check-row .result) (c .before .check-cells .ensures) (c .check-row .ensures)
 
 module _ (c : tie.After-sizes) where
   asked : Passes (questions (begun c)) (begun c .args .shape) (c .sizes .given .0 .0)

@@ -10,9 +10,9 @@ use Rattle.parity.specs.Shape.{levels, columns}
 use Rattle.parity.specs.Questions.{Question, firstNo, placeQuestion, levelsQuestion, soundQuestion}
 use Rattle.parity.proofs.Taken.{first-yes}
 use Rattle.shape.specs.Shapes.{checkedSays, sizesIf}
-use Rattle.shape.proofs.Refusals.{told, Passes, passes, then-refused, then-number, then-sizes, answer-then, levels-tested}
+use Rattle.shape.proofs.Refusals.{told, Passes, passes, then-refused, then-number, then-sizes, levels-tested}
 use Rattle.array_memory.specs.Questions.{cellsQuestions, finishedLength, rowArguments, commitArguments}
-use Rattle.array_memory.proofs.Asked.{CellsTaken, cells-parts}
+use Rattle.array_memory.proofs.Asked.{CellsTaken, cells-parts, cells-then}
 use Rattle.array_memory.proofs.questions.check_commit.Statement.{statement}
 use Rattle.array_memory.proofs.questions.check_commit.Tie as tie
 
@@ -45,10 +45,8 @@ answered : (c : tie.After-check-row) → checkedSays (c .check-row .result) ≡ 
 answered c =
     let start = begun c in
     let s = start .args .shape in
-    let before = c .before .check-finished in
-    c .check-row .ensures
-    ∙ answer-then (cellsQuestions s (start .args .cells) (finishedLength s (length (start .args .finished .now)) ∷ []))
-    (rowArguments s (s .width) (start .args .row)) s (before .result) refl (before .ensures)
+    cells-then s (start .args .cells) (finishedLength s (length (start .args .finished .now)) ∷ []) (rowArguments s (s .width) (start .args .row)) refl
+    (c .before .check-finished .result) (c .check-row .result) (c .before .check-finished .ensures) (c .check-row .ensures)
     ∙ ap (λ n. sizesIf n s) (no-part start)
 
 module _ (c : tie.After-sizes) where

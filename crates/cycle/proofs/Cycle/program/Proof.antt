@@ -1,13 +1,14 @@
 -- `cycle::Cycle::program` meets its contract: `check_cells` and `check_program` ask, and `write_row` writes the row. Assumes nothing.
-use mathlib.Core.Path.{_≡_, refl, sym, _∙_}
+use mathlib.Core.Path.{_≡_, refl, sym}
 use mathlib.Core.List.{List, [], _∷_}
 use lib.ListN.{length}
 use borrow.Author.Needs.{needs}
 use Rattle.parity.specs.Questions.{Question, firstNo}
 use Rattle.shape.specs.Shapes.{checkedSays, sizesIf}
-use Rattle.shape.proofs.Refusals.{told, fails, Passes, passes, answer-tells, answer-then}
+use Rattle.shape.proofs.Refusals.{told, fails, Passes, passes, answer-tells}
 use Rattle.array_memory.specs.Memory.{withCells, cellsLength}
 use Rattle.array_memory.specs.Questions.{cellsQuestions, programArguments}
+use Rattle.array_memory.proofs.Asked.{cells-then}
 use Rattle.array.specs.Calls.{rowWritten}
 use Rattle.cycle.specs.Record.{idle}
 use Rattle.cycle.specs.Calls.{programCall}
@@ -30,10 +31,8 @@ answered : (c : tie.After-check-program) → checkedSays (c .check-program .resu
 answered c =
     let start = entry c in
     let s = start .args .shape in
-    let cells = c .before .check-cells in
-    let own = programArguments s (start .args .row) (start .args .given .now) in
-    c .check-program .ensures
-    ∙ answer-then (cellsQuestions s (length (start .args .cells .now)) []) own s (cells .result) refl (cells .ensures)
+    cells-then s (length (start .args .cells .now)) [] (programArguments s (start .args .row) (start .args .given .now)) refl
+    (c .before .check-cells .result) (c .check-program .result) (c .before .check-cells .ensures) (c .check-program .ensures)
 
 asked : (c : tie.After-sizes) → Passes (questions (begun c)) (begun c .args .shape) (c .sizes .given .0 .0)
 asked c = passes _ _ _ (told (answered (c .before .before)) (c .sizes .given .1))
