@@ -5,6 +5,7 @@ use array_memory::questions::check_program;
 use parity::Shape;
 use shape::answer::Answer;
 use shape::byte::count_differences;
+use shape::byte::wide;
 use shape::sizes::Checked;
 ghost use mathlib.Core.Path.{_≡_};
 ghost use Rattle.shape.specs.Lent.{was, left};
@@ -31,7 +32,7 @@ pub fn ask(shape: Shape, cells: &[u8], row: usize, given: &[u8], finished: &mut 
             let start = row * columns;
             let end = start + columns;
             program_row(shape, checks, finished, given);
-            Answer::Is(count_differences(finished, &cells[start..end]))
+            Answer::Is(wide(count_differences(finished, &cells[start..end])))
         }
     }
 }

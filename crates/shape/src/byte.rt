@@ -1,6 +1,6 @@
 // A byte read as a number, bytes filled with one value or copied, the largest of them, and how many differ.
 ghost use mathlib.Core.Path.{_≡_};
-ghost use Prim.Native.Nat.{ℕ, _<_};
+ghost use Prim.Native.Nat.{ℕ, _≤_, _<_};
 ghost use lib.Dec.{ltb};
 ghost use lib.ListN.{length, replicate};
 ghost use Rattle.parity.specs.Lists.{every, filledFrom, differences};
@@ -54,12 +54,13 @@ pub fn largest(bytes: &[u8]) -> u8
     most
 }
 
-// In how many places the bytes of two buffers of one length differ.
-pub fn count_differences(one: &[u8], other: &[u8]) -> usize
-    requires { ⌜ length (now one) ≡ length (now other) ⌝ }
+// In how many places the bytes of two buffers of one length differ. The count is a byte, like what is compared, so that the loop
+// is compiled to vector code of as many lanes.
+pub fn count_differences(one: &[u8], other: &[u8]) -> u8
+    requires { ⌜ (length (now one) ≡ length (now other)) × (length (now one) ≤ 255) ⌝ }
     ensures { λ r. ⌜ r ≡ differences (was one) (was other) ⌝ }
 {
-    let mut count: usize = 0;
+    let mut count: u8 = 0;
     let mut i: usize = 0;
     while i < one.len() {
         if one[i] != other[i] {

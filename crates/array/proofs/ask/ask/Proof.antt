@@ -14,6 +14,7 @@ use Rattle.shape.specs.Answers.{accepted, giving}
 use Rattle.shape.specs.Shapes.{checkedSays, sizesIf}
 use Rattle.shape.proofs.Refusals.{told, Passes, passes, fails, answer-tells}
 use Rattle.shape.proofs.Calling.{call-refused, call-done}
+use Rattle.acam.proofs.Sizes.{columns-high}
 use Rattle.array_memory.specs.Memory.{withCells, cellsLength}
 use Rattle.array_memory.specs.Questions.{cellsQuestions, finishedLength, programArguments, askArguments}
 use Rattle.array.specs.Calls.{askCall}
@@ -104,9 +105,12 @@ count-differences-requires c κs =
     let made = c .before .before .before .before in
     let sizes = sized made in
     let args = begun sizes .args in
-    ap length (made .program-row .ensures)
-    ∙ encode-sized (args .shape) (args .given .now) (given sizes .1 .sized)
-    ∙ sym (part-sized (args .shape) (args .cells .now) (args .row) (parts sizes .0 .counted) (given sizes .1 .place) _ (wide sizes))
+    let long = ap length (made .program-row .ensures) ∙ encode-sized (args .shape) (args .given .now) (given sizes .1 .sized) in
+    let part = part-sized (args .shape) (args .cells .now) (args .row) (parts sizes .0 .counted) (given sizes .1 .place) _ (wide sizes) in
+    (long ∙ sym part, omega (arith, long, columns-high (args .shape) (parts sizes .0 .taken)))
+
+wide-requires : tie.Need-wide-requires
+wide-requires c κs = search needs
 
 returns : tie.Need-returns
 unfolding askCall
@@ -123,15 +127,15 @@ same-length c = search needs
 returns-2 : tie.Need-returns-2
 unfolding askCall
 returns-2 c =
-    let made = c .before .before .before .before .before in
+    let counted = c .before in
+    let made = counted .before .before .before .before .before in
     let sizes = sized made in
     let args = begun sizes .args in
-    let finished = sym (made .program-row .ensures) in
-    let changed =
-    sym (c .count-differences .ensures
-    ∙ ap₂ differences (made .program-row .ensures) (row-part (args .cells .now) (args .row) (columns (args .shape)) _ (wide sizes))) in
+    let finished = made .program-row .ensures in
+    let stands = row-part (args .cells .now) (args .row) (columns (args .shape)) _ (wide sizes) in
+    let changed = c .wide .ensures ∙ counted .count-differences .ensures ∙ ap₂ differences finished stands in
     λ mem. call-done _ (args .finished .now) (withCells (args .cells .now) mem) _ (asked sizes .none)
-    ∙ (λ i. giving (accepted (changed i)) (finished i) (withCells (args .cells .now) mem))
+    ∙ sym (λ i. giving (accepted (changed i)) (finished i) (withCells (args .cells .now) mem))
 
 pub ask-spec : {M : Type 1} → statement M
 ask-spec =
@@ -148,6 +152,7 @@ ask-spec =
     part-count-differences-start
     part-count-differences-end
     count-differences-requires
+    wide-requires
     returns
     same-length
     returns-2)
