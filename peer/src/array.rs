@@ -28,25 +28,103 @@ pub fn program(
     levels: &[u8],
     cycle: Cycle,
 ) -> (Cycle, Result<(), Refusal>) {
-    match ask_program(shape, cells, row, levels) {
+    let asked = ask_program(shape, cells, row, levels);
+    write_row(asked, cells, row, cycle, |layout, row| {
+        finish(layout, levels, row);
+    })
+}
+
+fn ask_program(shape: Shape, cells: &[u8], row: usize, levels: &[u8]) -> Result<Layout, Refusal> {
+    let layout = ask_cells(shape, cells)?;
+    ask_levels_for(&layout, row, levels, layout.width())?;
+    Ok(layout)
+}
+
+/// Writes the finished row into a buffer of n cells that programming a row with
+/// k levels would write, and gives the number of cells in which the row as it
+/// stands differs from it. The array stays as it is.
+pub fn ask(
+    shape: Shape,
+    cells: &[u8],
+    row: usize,
+    levels: &[u8],
+    finished: &mut [u8],
+) -> Result<usize, Refusal> {
+    let layout = ask_cells(shape, cells)?;
+    layout.ask_length(finished, layout.columns())?;
+    ask_levels_for(&layout, row, levels, layout.width())?;
+    finish(&layout, levels, finished);
+    Ok(differing(finished, row_of(&layout, cells, row)))
+}
+
+/// Writes a finished row of n cells, which has to be sound: what programming its
+/// first k levels does. The record becomes idle. The row's line stays as it is.
+pub fn commit(
+    shape: Shape,
+    cells: &mut [u8],
+    row: usize,
+    finished: &[u8],
+    cycle: Cycle,
+) -> (Cycle, Result<(), Refusal>) {
+    let asked = ask_commit(shape, cells, row, finished);
+    write_row(asked, cells, row, cycle, |_, row| {
+        row.copy_from_slice(finished);
+    })
+}
+
+fn ask_commit(shape: Shape, cells: &[u8], row: usize, finished: &[u8]) -> Result<Layout, Refusal> {
+    let layout = ask_cells(shape, cells)?;
+    ask_levels_for(&layout, row, finished, layout.columns())?;
+    if is_codeword(&layout, finished) {
+        Ok(layout)
+    } else {
+        Err(Refusal::Unsound)
+    }
+}
+
+/// Question 6 for levels that are to be so many, question 7 for the row that they
+/// are for, and question 8.
+fn ask_levels_for(
+    layout: &Layout,
+    row: usize,
+    levels: &[u8],
+    length: usize,
+) -> Result<(), Refusal> {
+    layout.ask_length(levels, length)?;
+    layout.ask_row(row)?;
+    layout.ask_levels(levels)
+}
+
+/// Writes a row, once the call's questions are asked. The record becomes idle
+/// then; a refusal hands it back.
+fn write_row(
+    asked: Result<Layout, Refusal>,
+    cells: &mut [u8],
+    row: usize,
+    cycle: Cycle,
+    write: impl FnOnce(&Layout, &mut [u8]),
+) -> (Cycle, Result<(), Refusal>) {
+    match asked {
         Err(refusal) => (cycle, Err(refusal)),
         Ok(layout) => {
             let start = row * layout.columns();
             let end = start + layout.columns();
-            let row = &mut cells[start..end];
-            row[..layout.width()].copy_from_slice(levels);
-            encode(&layout, row);
+            write(&layout, &mut cells[start..end]);
             (Cycle::IDLE, Ok(()))
         }
     }
 }
 
-fn ask_program(shape: Shape, cells: &[u8], row: usize, levels: &[u8]) -> Result<Layout, Refusal> {
-    let layout = ask_cells(shape, cells)?;
-    layout.ask_length(levels, layout.width())?;
-    layout.ask_row(row)?;
-    layout.ask_levels(levels)?;
-    Ok(layout)
+/// Makes the finished row of k levels: these, and then their check cells.
+fn finish(layout: &Layout, levels: &[u8], row: &mut [u8]) {
+    row[..layout.width()].copy_from_slice(levels);
+    encode(layout, row);
+}
+
+/// The number of cells in which two rows differ.
+fn differing(one: &[u8], other: &[u8]) -> usize {
+    let pairs = one.iter().zip(other);
+    pairs.filter(|(one, other)| one != other).count()
 }
 
 /// Lets one cell drift to a level. Nothing else changes.

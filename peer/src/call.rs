@@ -6,11 +6,11 @@
 //! in [`crate::testing::arguments`]; where it is missing there, the tests miss
 //! refusals of the call.
 
+use crate::array;
 use crate::cycle::{self, Cycle};
 use crate::panel::{panel, Panel};
 use crate::shape::{Refusal, Shape};
 use crate::state::{Bytes, State};
-use crate::{array, code};
 
 /// Makes two enums of one listing: the calls with their arguments, and the
 /// names of the calls alone.
@@ -57,6 +57,22 @@ calls! {
         row: usize,
         /// Its levels.
         levels: Vec<u8>,
+    },
+    /// Ask what programming a row would write, and how many cells it would change.
+    Ask {
+        /// The row.
+        row: usize,
+        /// Its levels.
+        levels: Vec<u8>,
+        /// What the finished row is written into.
+        finished: B,
+    },
+    /// Commit a finished row.
+    Commit {
+        /// The row.
+        row: usize,
+        /// Its levels and check cells.
+        finished: Vec<u8>,
     },
     /// Let a cell drift.
     Drift {
@@ -117,26 +133,23 @@ calls! {
         /// What they are copied into.
         out: B,
     },
-    /// Encode one row that lies outside the array.
-    Encode {
-        /// Levels and then any bytes; a codeword afterwards.
-        codeword: B,
-    },
 }
 
 impl Name {
     /// Whether the call is given the record and hands it back.
     pub fn has_record(self) -> bool {
         match self {
-            Name::Clear | Name::Program | Name::Start | Name::Step | Name::Run => true,
-            Name::Drift
+            Name::Clear | Name::Program | Name::Commit | Name::Start | Name::Step | Name::Run => {
+                true
+            }
+            Name::Ask
+            | Name::Drift
             | Name::Line
             | Name::Lookup
             | Name::Panel
             | Name::FirstMatch
             | Name::Sound
-            | Name::Read
-            | Name::Encode => false,
+            | Name::Read => false,
         }
     }
 }
@@ -147,6 +160,16 @@ impl<B> Call<B> {
         match self {
             Call::Clear => Call::Clear,
             Call::Program { row, levels } => Call::Program { row, levels },
+            Call::Ask {
+                row,
+                levels,
+                finished,
+            } => Call::Ask {
+                row,
+                levels,
+                finished: change(finished),
+            },
+            Call::Commit { row, finished } => Call::Commit { row, finished },
             Call::Drift { row, column, level } => Call::Drift { row, column, level },
             Call::Line { row, byte } => Call::Line { row, byte },
             Call::Lookup { inputs, matches } => Call::Lookup {
@@ -168,21 +191,21 @@ impl<B> Call<B> {
                 row,
                 out: change(out),
             },
-            Call::Encode { codeword } => Call::Encode {
-                codeword: change(codeword),
-            },
         }
     }
 }
 
-/// What a call gave: nothing, a count, what the panel is told, a row or none,
-/// yes or no; or the number of the first question that failed.
+/// What a call gave: nothing, a count of matches or of changes, what the panel is
+/// told, a row or none, yes or no; or the number of the first question that
+/// failed.
 #[derive(Clone, Copy, Debug, PartialEq, Eq)]
 pub enum Answer {
     /// The call was taken and gives nothing.
     Done,
     /// The number of matches.
     Count(usize),
+    /// The number of cells that programming would change.
+    Changed(usize),
     /// What the panel is told.
     Panel(Panel),
     /// The first row that matches.
@@ -229,9 +252,18 @@ pub fn make<S: Bytes, B: Bytes>(
     match call {
         Call::Clear => keep(array::clear(shape, state.lend(), now)),
         Call::Program { row, levels } => keep(array::program(shape, cells, *row, levels, now)),
+        Call::Commit { row, finished } => keep(array::commit(shape, cells, *row, finished, now)),
         Call::Start { skip } => keep(cycle::start(shape, *skip, state.lend(), now)),
         Call::Step { matches } => keep(cycle::step(shape, state.lend(), matches, now)),
         Call::Run { skip, matches } => keep(cycle::run(shape, *skip, state.lend(), matches, now)),
+        Call::Ask {
+            row,
+            levels,
+            finished,
+        } => {
+            let changed = array::ask(shape, cells, *row, levels, finished);
+            Answer::of(changed, Answer::Changed)
+        }
         Call::Drift { row, column, level } => {
             Answer::done(array::drift(shape, cells, *row, *column, *level))
         }
@@ -246,6 +278,5 @@ pub fn make<S: Bytes, B: Bytes>(
         }
         Call::Sound { row } => Answer::of(array::sound(shape, cells, *row), Answer::Sound),
         Call::Read { row, out } => Answer::done(array::read(shape, cells, *row, out)),
-        Call::Encode { codeword } => Answer::done(code::encode_row(shape, codeword)),
     }
 }

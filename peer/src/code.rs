@@ -1,7 +1,7 @@
 //! The code of a row: the encoder of its check cells, and the codeword test.
 
 use crate::matrix::MAX_CHECKS;
-use crate::shape::{Layout, Refusal, Shape};
+use crate::shape::Layout;
 
 /// The largest number of digits: 2^8 is the largest number of levels.
 const MAX_DIGITS: usize = 8;
@@ -28,16 +28,6 @@ pub fn encode(layout: &Layout, row: &mut [u8]) {
     }
 }
 
-/// The encoder as a call on one lent row of n cells: question 6 is asked of the
-/// row, question 8 of its first k cells.
-pub fn encode_row(shape: Shape, row: &mut [u8]) -> Result<(), Refusal> {
-    let layout = shape.layout()?;
-    layout.ask_length(row, layout.columns())?;
-    layout.ask_levels(&row[..layout.width()])?;
-    encode(&layout, row);
-    Ok(())
-}
-
 /// Whether a row of n cells is sound, a codeword: all its cells are below q, and
 /// each digit sums to 0 mod the radix over each check.
 ///
@@ -46,11 +36,12 @@ pub fn encode_row(shape: Shape, row: &mut [u8]) -> Result<(), Refusal> {
 /// If the row has not n cells.
 pub fn is_codeword(layout: &Layout, row: &[u8]) -> bool {
     assert_eq!(row.len(), layout.columns(), "a row has n cells");
+    let radix = layout.radix() as u16;
     layout.ask_levels(row).is_ok()
-        && digit_sums(layout, row)
+        && digit_sums(layout, row)[..layout.checks()]
             .iter()
-            .flatten()
-            .all(|sum| usize::from(*sum) % layout.radix() == 0)
+            .flat_map(|sums| &sums[..layout.digits()])
+            .all(|sum| sum % radix == 0)
 }
 
 /// Sums the digits of the cells, which stand in the columns from 0 on.

@@ -20,7 +20,7 @@ use crate::state::State;
 /// Where a cycle is.
 #[derive(Clone, Copy, Debug, PartialEq, Eq, Hash)]
 pub enum Phase {
-    /// No cycle since the array was cleared or a row programmed.
+    /// No cycle since the array was cleared or a row written.
     Idle,
     /// The opening or a vector is still to come.
     Open,

@@ -36,9 +36,9 @@ pub mod shape;
 pub mod state;
 pub mod testing;
 
-pub use array::{clear, drift, first_match, line, lookup, program, read, sound};
+pub use array::{ask, clear, commit, drift, first_match, line, lookup, program, read, sound};
 pub use call::{make, Answer, Call, Name};
-pub use code::{encode, encode_row, is_codeword};
+pub use code::{encode, is_codeword};
 pub use comparator::match_byte;
 pub use cycle::{run, start, step, Cycle, Phase};
 pub use job::job;

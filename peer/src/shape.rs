@@ -41,6 +41,8 @@ pub enum Refusal {
     Skip = 15,
     /// A line byte to be set is above 1.
     Line = 16,
+    /// A row to be committed is not sound.
+    Unsound = 17,
 }
 
 impl Refusal {

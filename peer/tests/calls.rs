@@ -9,6 +9,7 @@ use peer::testing::naive::panel::blocks;
 use peer::testing::naive::spec::{questions, Spec};
 use peer::testing::random::Random;
 use peer::testing::records::forged;
+use peer::testing::rows::{any_row, sound_row};
 use peer::testing::settings;
 use peer::testing::shapes::{any_shape, small_shape};
 use peer::testing::skips::Skips;
@@ -61,6 +62,7 @@ struct Given {
     level: u8,
     line: u8,
     levels: Vec<u8>,
+    finished: Vec<u8>,
     skip: usize,
 }
 
@@ -69,6 +71,10 @@ impl Draw for Given {
 
     fn rule(&mut self) -> (usize, Vec<u8>) {
         (self.row, self.levels.clone())
+    }
+
+    fn finished(&mut self) -> Vec<u8> {
+        self.finished.clone()
     }
 
     fn row(&mut self) -> usize {
@@ -116,12 +122,8 @@ fn some_state(random: &mut Random, spec: Option<&Spec>, sizes: &Sizes) -> State<
 }
 
 /// Arguments mostly in range.
-fn given(random: &mut Random, sizes: &Sizes) -> Given {
-    let own = [
-        some_bytes(random, sizes.rows),
-        some_bytes(random, sizes.width),
-        some_codeword(random, sizes),
-    ];
+fn given(random: &mut Random, shape: Shape, sizes: &Sizes) -> Given {
+    let own = [sizes.rows, sizes.width, sizes.columns].map(|wanted| some_bytes(random, wanted));
     let length = some_length(random, sizes.width);
     let bound = match random.below(10) {
         0 => 256,
@@ -143,6 +145,7 @@ fn given(random: &mut Random, sizes: &Sizes) -> Given {
             random.level(2)
         },
         levels: random.levels(bound, length),
+        finished: some_finished(random, shape, sizes),
         skip: some_number(random, sizes.digits),
     }
 }
@@ -167,16 +170,17 @@ fn some_marks(random: &mut Random, wanted: usize) -> Vec<u8> {
     random.sparse(length, times)
 }
 
-/// Mostly n bytes for the encoder, of which the first k are mostly levels.
-fn some_codeword(random: &mut Random, sizes: &Sizes) -> Vec<u8> {
-    let mut codeword = random.levels(sizes.levels, sizes.width);
-    if random.one_in(4) {
-        let place = random.below(sizes.width);
-        codeword[place] = random.byte();
-    }
-    codeword.extend(random.bytes(sizes.columns));
-    codeword.truncate(some_length(random, sizes.columns));
-    codeword
+/// Mostly n bytes for a commit, a sound row or not; any for a bad shape.
+fn some_finished(random: &mut Random, shape: Shape, sizes: &Sizes) -> Vec<u8> {
+    let mut finished = match shape.layout() {
+        Ok(layout) => {
+            let asked = sound_row(random, &layout);
+            any_row(random, &layout, &asked)
+        }
+        Err(_) => random.bytes(sizes.columns),
+    };
+    finished.resize(some_length(random, sizes.columns), 0);
+    finished
 }
 
 /// Sound rows, a few of them with a cell changed.
@@ -245,7 +249,7 @@ fn compare(random: &mut Random, shape: Shape, name: Name, seen: &mut Seen) {
         state: some_state(random, spec, &sizes),
         cycle,
     };
-    let mut call = draw::call(name, &mut given(random, &sizes));
+    let mut call = draw::call(name, &mut given(random, shape, &sizes));
     let before = (ours.clone(), call.clone());
     let (mut plain, mut plain_call) = before.clone();
     let answer = ours.make(&mut call);

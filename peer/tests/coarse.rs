@@ -1,19 +1,13 @@
 //! Cycles that skip low digits: the example, question 15 and its place among
 //! the others, starts that it refuses, and the vectors that are left.
 
+use peer::testing::arrays::{Make, BOTH};
 use peer::testing::lent::Own;
-use peer::testing::naive::calls::make;
 use peer::testing::naive::spec::questions;
 use peer::testing::settings;
 use peer::testing::shapes::{asked, small_shape};
 use peer::testing::skips::{example, too_many};
 use peer::{Answer, Array, Call, Cycle, Name, Phase, Shape, State};
-
-/// One way of making the calls.
-type Make = fn(&mut Array, &mut Call<Vec<u8>>) -> Answer;
-
-/// By this build, and by the definitions.
-const BOTH: [Make; 2] = [Array::make, make];
 
 /// Three binary digits.
 const GOOD: Shape = Shape::new(2, 3, 1, 3, 2);

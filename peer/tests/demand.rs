@@ -1,149 +1,19 @@
-//! Demand 3 on random lists of calls, with the log kept beside the run. The
-//! log is fed the shape and the calls with their arguments, and none of the
-//! library's answers. Beside it, what the panel is told and a full reading of
-//! the flags.
+//! Demand 3 on random lists of calls, with the log kept beside the run; and
+//! beside it, what the panel is told and a full reading of the flags.
 //!
 //! A verdict is asked for where no byte of cells or lines has changed since the
 //! cycle's start, which is less than document 01's mark asks: that one is put on
 //! by a drift or a line setting to the value that stands there too.
 
+use peer::testing::asks::Asks;
 use peer::testing::lists::list;
+use peer::testing::log::{Log, LoggedCycle};
 use peer::testing::naive::panel::counts;
-use peer::testing::naive::spec::{questions, Spec};
+use peer::testing::naive::spec::Spec;
 use peer::testing::settings;
 use peer::testing::shapes::{short_coarse_shape, BLOCK_EDGES};
 use peer::testing::verdict::{assert_flag, Row};
-use peer::{panel, Answer, Array, Call, Panel, Phase, Shape, State};
-
-#[derive(Clone, Copy, Debug, PartialEq, Eq)]
-enum LoggedCycle {
-    None,
-    Open,
-    Ended,
-}
-
-/// What a list did.
-struct Log {
-    spec: Spec,
-    written: Vec<Vec<u8>>,
-    standing: Vec<Vec<u8>>,
-    lines: Vec<u8>,
-    cycle: LoggedCycle,
-    count: usize,
-    /// The z of the cycle, 0 where there is none.
-    skip: usize,
-    /// Whether a cell drifted or a line was set since the start, to whatever.
-    mark: bool,
-    /// Whether a byte of cells or lines became another one by that. It stays a
-    /// change where it is undone.
-    changed: bool,
-    /// Whether the last call is a step that ended a cycle.
-    just_ended: bool,
-}
-
-impl Log {
-    fn new(shape: Shape) -> Log {
-        let spec = questions(shape).expect("a good shape");
-        let zeros = vec![vec![0; spec.columns()]; shape.rows];
-        Log {
-            spec,
-            written: zeros.clone(),
-            standing: zeros,
-            lines: vec![0; shape.rows],
-            cycle: LoggedCycle::None,
-            count: 0,
-            skip: 0,
-            mark: false,
-            changed: false,
-            just_ended: false,
-        }
-    }
-
-    fn below(&self, levels: &[u8]) -> bool {
-        levels
-            .iter()
-            .all(|&level| usize::from(level) < self.spec.levels)
-    }
-
-    fn feed(&mut self, call: &Call<Vec<u8>>) {
-        self.just_ended = false;
-        match call {
-            Call::Clear => *self = Log::new(self.spec.shape),
-            Call::Program { row, levels } => self.program(*row, levels),
-            Call::Drift { row, column, level } => self.drift(*row, *column, *level),
-            Call::Line { row, byte } => self.line(*row, *byte),
-            Call::Lookup { .. } => {}
-            Call::Start { skip } => self.start(*skip),
-            Call::Step { matches } => self.step(matches.len()),
-            Call::Run { .. }
-            | Call::Panel
-            | Call::FirstMatch { .. }
-            | Call::Sound { .. }
-            | Call::Read { .. }
-            | Call::Encode { .. } => panic!("{:?} is no call of these lists", call.name()),
-        }
-    }
-
-    fn program(&mut self, row: usize, levels: &[u8]) {
-        let shape = self.spec.shape;
-        if row < shape.rows && levels.len() == shape.width && self.below(levels) {
-            self.written[row] = self.spec.encoded(levels);
-            self.standing[row] = self.written[row].clone();
-            self.cycle = LoggedCycle::None;
-            self.count = 0;
-            self.skip = 0;
-        }
-    }
-
-    fn drift(&mut self, row: usize, column: usize, level: u8) {
-        if row < self.spec.shape.rows && column < self.spec.columns() && self.below(&[level]) {
-            self.mark = true;
-            self.changed |= self.standing[row][column] != level;
-            self.standing[row][column] = level;
-        }
-    }
-
-    fn line(&mut self, row: usize, byte: u8) {
-        if row < self.spec.shape.rows && byte <= 1 {
-            self.mark = true;
-            self.changed |= self.lines[row] != byte;
-            self.lines[row] = byte;
-        }
-    }
-
-    fn start(&mut self, skip: usize) {
-        if skip < self.spec.shape.digits {
-            self.cycle = LoggedCycle::Open;
-            self.count = 0;
-            self.skip = skip;
-            self.mark = false;
-            self.changed = false;
-        }
-    }
-
-    fn step(&mut self, match_bytes: usize) {
-        if self.cycle == LoggedCycle::Open && match_bytes == self.spec.shape.rows {
-            self.count += 1;
-            let levels = self.spec.levels / self.spec.shape.radix.pow(self.skip as u32);
-            if self.count == 1 + (levels - 1) * self.spec.weight() {
-                self.cycle = LoggedCycle::Ended;
-                self.just_ended = true;
-            }
-        }
-    }
-
-    /// The rows in both forms, with their lines.
-    fn rows(&self) -> impl Iterator<Item = Row<'_>> {
-        let forms = self.written.iter().zip(&self.standing);
-        forms
-            .zip(&self.lines)
-            .map(|((written, standing), &line)| Row {
-                written,
-                standing,
-                line,
-            })
-    }
-}
+use peer::{panel, Answer, Array, Call, Name, Panel, Phase, Shape, State};
 
 /// What verdicts said.
 #[derive(Debug, Default)]
@@ -178,6 +48,10 @@ struct Seen {
     ended_changed: usize,
     /// Verdicts that still hold after a later call.
     later: usize,
+    /// Verdicts after a commit that was taken, without a clear between.
+    committed: usize,
+    /// What was seen of asks and commits.
+    asks: Asks,
     refused: usize,
     /// Starts that were refused while a cycle was open.
     refused_starts: usize,
@@ -228,29 +102,30 @@ fn check(log: &Log, array: &Array, seen: &mut Seen) {
     }
     // where document 01's mark is off, nothing has changed
     assert!(log.mark || !log.changed);
-    if log.cycle == LoggedCycle::Ended && !log.changed {
-        check_verdict(log, array, seen);
+    if has_verdict(log) {
+        for (row, &flag) in log.rows().zip(&array.state.flags) {
+            assert_flag(&log.spec, row, log.skip, flag);
+        }
     }
-    seen.ended_changed += usize::from(log.just_ended && log.changed);
 }
 
-/// The flags after a cycle has ended, where nothing changed since its start.
-fn check_verdict(log: &Log, array: &Array, seen: &mut Seen) {
-    for (row, &flag) in log.rows().zip(&array.state.flags) {
-        assert_flag(&log.spec, row, log.skip, flag);
-    }
-    if !log.just_ended {
-        seen.later += 1;
-        return;
-    }
-    seen.only_marked += usize::from(log.mark);
-    let verdicts = match log.skip {
-        0 => &mut seen.fine,
-        _ => &mut seen.coarse,
-    };
-    verdicts.cycles += 1;
-    for (row, &flag) in log.rows().zip(&array.state.flags) {
-        verdicts.count(&log.spec, row, log.skip, flag);
+/// Whether a cycle has ended, and nothing changed since its start.
+fn has_verdict(log: &Log) -> bool {
+    log.cycle == LoggedCycle::Ended && !log.changed
+}
+
+impl Seen {
+    /// Counts a cycle that ended with a verdict.
+    fn count_cycle(&mut self, log: &Log, array: &Array) {
+        self.only_marked += usize::from(log.mark);
+        let verdicts = match log.skip {
+            0 => &mut self.fine,
+            _ => &mut self.coarse,
+        };
+        verdicts.cycles += 1;
+        for (row, &flag) in log.rows().zip(&array.state.flags) {
+            verdicts.count(&log.spec, row, log.skip, flag);
+        }
     }
 }
 
@@ -281,14 +156,33 @@ impl Verdicts {
 fn run(shape: Shape, calls: Vec<Call<Vec<u8>>>, seen: &mut Seen) {
     let mut log = Log::new(shape);
     let mut array = Array::fresh(shape).expect("a good shape");
+    let mut committed = false;
+    seen.asks.begin_list();
     check(&log, &array, seen);
     for mut call in calls {
+        let before = array.cycle;
+        let was_open = log.cycle == LoggedCycle::Open;
         log.feed(&call);
-        let was_open = array.cycle.phase == Phase::Open;
         let answer = array.make(&mut call);
         seen.refused += usize::from(answer.number() != 0);
         seen.refused_starts += usize::from(was_open && answer == Answer::Refused(15));
+        seen.asks.add(shape, &call, answer, before);
         check(&log, &array, seen);
+        let ends = was_open && log.cycle == LoggedCycle::Ended;
+        match (ends, has_verdict(&log)) {
+            (true, true) => {
+                seen.count_cycle(&log, &array);
+                seen.committed += usize::from(committed);
+            }
+            (true, false) => seen.ended_changed += 1,
+            (false, true) => seen.later += 1,
+            (false, false) => {}
+        }
+        match call.name() {
+            Name::Clear => committed = false,
+            Name::Commit => committed |= answer == Answer::Done,
+            _ => {}
+        }
     }
 }
 
@@ -299,7 +193,7 @@ fn demand_3_holds_on_random_lists() {
     let mut seen = Seen::default();
     for _ in 0..lists {
         let shape = short_coarse_shape(&mut random, 120);
-        let pieces = random.below(14);
+        let pieces = random.below(18);
         let calls = list(&mut random, shape, pieces);
         run(shape, calls, &mut seen);
     }
@@ -314,8 +208,9 @@ fn demand_3_holds_on_random_lists() {
     }
     assert!(seen.coarse.low > 500 && seen.coarse.more_below > 300);
     assert!(seen.only_marked > 100 && seen.ended_changed > 100);
-    assert!(seen.later > 1000);
+    assert!(seen.later > 1000 && seen.committed > 1000);
     assert!(seen.refused > 1000 && seen.refused_starts > 500);
+    seen.asks.assert_each(50);
     assert!(seen.idle > 1000 && seen.open > 1000 && seen.complete > 1000);
     assert!(seen.none_flagged > 1000 && seen.several_flagged > 1000);
 }

@@ -1,45 +1,19 @@
 //! Match lines: the example, the line call and its questions, dead rows in
 //! lookups, the opening of a cycle, and lines that change in the middle of one.
 
+use peer::testing::arrays::{any_array, Make, BOTH};
 use peer::testing::draw::{self, Right};
 use peer::testing::lent::wrong_lengths;
-use peer::testing::lines::{any_lines, EXAMPLE, FOREIGN, WITH_LINES};
-use peer::testing::naive::calls::make;
+use peer::testing::lines::{EXAMPLE, FOREIGN, WITH_LINES};
 use peer::testing::naive::panel::counts;
 use peer::testing::naive::spec::questions;
-use peer::testing::panels::foreign;
 use peer::testing::random::Random;
 use peer::testing::settings;
 use peer::testing::shapes::{asked, block_shape, small_shape};
-use peer::{Answer, Array, Call, Cycle, Name, Phase, Shape, State};
-
-/// One way of making the calls.
-type Make = fn(&mut Array, &mut Call<Vec<u8>>) -> Answer;
-
-/// By this build, and by the definitions.
-const BOTH: [Make; 2] = [Array::make, make];
+use peer::{Answer, Array, Call, Cycle, Name, Phase, Shape};
 
 /// Three binary digits and two rows.
 const GOOD: Shape = Shape::new(2, 3, 1, 3, 2);
-
-/// An array with any bytes in it, whose cycle is at any place.
-fn any_array(random: &mut Random, shape: Shape) -> Array {
-    let layout = shape.layout().unwrap();
-    let schedule = questions(shape).unwrap().schedule(0);
-    let count = random.below(schedule.steps() + 1);
-    let (flags, totals) = foreign(random, &layout);
-    Array {
-        shape,
-        state: State {
-            cells: random.bytes(layout.cells()),
-            lines: any_lines(random, shape.rows),
-            counters: random.bytes(shape.rows),
-            flags,
-            totals,
-        },
-        cycle: schedule.record(count),
-    }
-}
 
 #[test]
 fn the_example() {

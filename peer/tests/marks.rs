@@ -2,6 +2,7 @@
 
 use peer::matrix::{LARGEST_WIDTH, ORDER};
 use peer::testing::naive::spec::questions;
+use peer::testing::rows::all_rows;
 use peer::testing::settings;
 use peer::testing::shapes::any_good_shape;
 use peer::{encode, is_codeword, Layout, Refusal, Shape};
@@ -197,17 +198,11 @@ fn sound_rows_lie_far_apart() {
         (6, 1, 3, 1),
     ] {
         let layout = layout(radix, digits, errors, width);
-        let columns = layout.columns();
-        let q = layout.levels();
-        let sound: Vec<Vec<u8>> = (0..q.pow(columns as u32))
-            .map(|number| {
-                (0..columns)
-                    .map(|c| (number / q.pow(c as u32) % q) as u8)
-                    .collect::<Vec<u8>>()
-            })
+        let all_levels: Vec<u8> = (0..layout.levels() as u8).collect();
+        let sound: Vec<Vec<u8>> = all_rows(&all_levels, layout.columns())
             .filter(|row| is_codeword(&layout, row))
             .collect();
-        assert_eq!(sound.len(), q.pow(width as u32));
+        assert_eq!(sound.len(), layout.levels().pow(width as u32));
         for (place, row) in sound.iter().enumerate() {
             for other in &sound[..place] {
                 let differing = row.iter().zip(other).filter(|(a, b)| a != b).count();

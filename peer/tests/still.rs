@@ -6,6 +6,7 @@ use peer::testing::lines::any_lines;
 use peer::testing::lists::list;
 use peer::testing::naive::spec::{questions, Spec};
 use peer::testing::random::Random;
+use peer::testing::rows::all_rows;
 use peer::testing::settings;
 use peer::testing::shapes::short_coarse_shape;
 use peer::testing::verdict::{assert_flag, Row};
@@ -30,16 +31,6 @@ fn flags_after(shape: Shape, rows: &[Vec<u8>], lines: &[u8], skip: usize) -> Vec
     array.state.flags
 }
 
-/// All rows of n levels.
-fn all_rows(spec: &Spec) -> Vec<Vec<u8>> {
-    let levels = spec.levels;
-    let columns = spec.columns() as u32;
-    let level = |number: usize, column| (number / levels.pow(column) % levels) as u8;
-    (0..levels.pow(columns))
-        .map(|number| (0..columns).map(|column| level(number, column)).collect())
-        .collect()
-}
-
 /// Some small shapes and all that can become of a row of them, with a sound line
 /// and with a dead one. Every change of up to τ cells above the skipped digits is
 /// caught, and every dead line.
@@ -60,7 +51,8 @@ fn every_change_of_few_cells_and_every_dead_line_is_flagged() {
         let mut spec = questions(Shape::new(radix, digits, errors, width, 1)).unwrap();
         let levels: Vec<u8> = (0..width).map(|c| (c * 5 % spec.levels) as u8).collect();
         let written = spec.encoded(&levels);
-        let rows = all_rows(&spec);
+        let all_levels: Vec<u8> = (0..spec.levels as u8).collect();
+        let rows: Vec<Vec<u8>> = all_rows(&all_levels, spec.columns()).collect();
         spec.shape.rows = rows.len();
         for skip in 0..digits {
             for line in [0, 1, 2, 255] {

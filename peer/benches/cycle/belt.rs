@@ -8,7 +8,8 @@ use peer::testing::random::Random;
 use peer::testing::records::{cycle_of, words_of, Words};
 use peer::Shape;
 
-use crate::{in_c, least, proved_calls, timed, timed_each, Bench, Build, Pieces};
+use crate::rules::Rules;
+use crate::{in_c, least, proved_calls, timed, Bench, Build, Pieces};
 
 /// What its lines are called.
 pub const TITLE: &str = "belt change";
@@ -34,28 +35,19 @@ fn foreign(random: &mut Random, shape: Shape) -> Bench {
     bench
 }
 
-/// What the rows are to hold.
 struct Belt {
-    shape: Shape,
-    /// k levels for each row, row after row.
-    levels: Vec<u8>,
+    /// What the rows are to hold.
+    rules: Rules,
     /// What the clear is to leave.
     fresh: Bench,
 }
 
 impl Belt {
     fn drawn(random: &mut Random, shape: Shape) -> Belt {
-        let layout = shape.layout().expect("a good shape");
         Belt {
-            shape,
-            levels: random.levels(layout.levels(), shape.rows * shape.width),
+            rules: Rules::drawn(random, shape),
             fresh: Bench::fresh(shape),
         }
-    }
-
-    /// Each row with its levels.
-    fn rows(&self) -> impl ExactSizeIterator<Item = (usize, &[u8])> {
-        self.levels.chunks_exact(self.shape.width).enumerate()
     }
 
     /// One run: the times of its pieces. What the clear leaves is looked at in
@@ -63,12 +55,12 @@ impl Belt {
     fn run(&self, build: Build, bench: &mut Bench) -> Vec<Duration> {
         let mut pieces = self.clear(build, bench);
         assert!(*bench == self.fresh, "this is not the fresh array");
-        pieces.extend(self.program(build, bench));
+        pieces.extend(self.rules.program(build, bench));
         pieces
     }
 
     fn clear(&self, build: Build, Bench { words, state, .. }: &mut Bench) -> Vec<Duration> {
-        let shape = self.shape;
+        let shape = self.rules.shape;
         let array = in_c::Array::new(shape);
         timed(1, |_| match build {
             Build::Proved => assert_eq!(proved_calls::clear(words, shape, state.lend()), 0),
@@ -81,36 +73,12 @@ impl Belt {
         })
     }
 
-    fn program(&self, build: Build, Bench { words, state, .. }: &mut Bench) -> Vec<Duration> {
-        let (shape, cells) = (self.shape, &mut state.cells);
-        let array = in_c::Array::new(shape);
-        match build {
-            Build::Proved => timed_each(self.rows(), |(row, levels)| {
-                let number = proved_calls::program(words, shape, cells, row, levels);
-                assert_eq!(number, 0);
-            }),
-            Build::Rust => {
-                let mut cycle = cycle_of(words);
-                let pieces = timed_each(self.rows(), |(row, levels)| {
-                    let (next, answer) = peer::program(shape, cells, row, levels, cycle);
-                    assert_eq!(answer, Ok(()));
-                    cycle = next;
-                });
-                *words = words_of(cycle);
-                pieces
-            }
-            Build::C => timed_each(self.rows(), |(row, levels)| {
-                in_c::program(&array, words, cells, row, levels);
-            }),
-        }
-    }
-
     /// Each row is sound and holds its levels; all else is that of the fresh
     /// array, the idle record too.
     fn check_end(&self, end: &Bench) {
-        let spec = questions(self.shape).expect("a good shape");
+        let spec = questions(self.rules.shape).expect("a good shape");
         let cells = &end.state.cells;
-        for (row, levels) in self.rows() {
+        for (row, levels) in self.rules.rows() {
             let row = spec.row(cells, row);
             assert!(row.starts_with(levels) && spec.is_sound(row));
         }

@@ -59,6 +59,12 @@ impl Array {
         cells.len() == self.cells() && lines.len() == self.rows && inputs.len() == self.width
     }
 
+    /// Whether there are as many cells as the calls on a row trust in, and such a
+    /// row.
+    fn fits_row(&self, cells: &[u8], row: usize) -> bool {
+        cells.len() == self.cells() && row < self.rows
+    }
+
     fn cells(&self) -> usize {
         self.rows * self.columns
     }
@@ -139,7 +145,20 @@ linked! {
     ) -> usize;
     fn loops_panel(array: *const Array, flags: *const u8, totals: *const u8, told: *mut Told);
     fn loops_reading(array: *const Array, flags: *const u8, told: *mut Told);
-    fn loops_encode(array: *const Array, row: *mut u8);
+    fn loops_ask(
+        array: *const Array,
+        cells: *const u8,
+        row: usize,
+        levels: *const u8,
+        finished: *mut u8,
+    ) -> usize;
+    fn loops_commit(
+        array: *const Array,
+        record: *mut Words,
+        cells: *mut u8,
+        row: usize,
+        finished: *const u8,
+    ) -> u8;
 }
 
 pub fn clear(array: &Array, words: &mut Words, state: State<&mut [u8]>) {
@@ -158,8 +177,28 @@ pub fn clear(array: &Array, words: &mut Words, state: State<&mut [u8]>) {
 }
 
 pub fn program(array: &Array, words: &mut Words, cells: &mut [u8], row: usize, levels: &[u8]) {
-    assert!(cells.len() == array.cells() && row < array.rows && levels.len() == array.width);
+    assert!(array.fits_row(cells, row) && levels.len() == array.width);
     unsafe { loops_program(array, words, cells.as_mut_ptr(), row, levels.as_ptr()) }
+}
+
+/// The number of cells that would change.
+pub fn ask(array: &Array, cells: &[u8], row: usize, levels: &[u8], finished: &mut [u8]) -> usize {
+    assert!(array.fits_row(cells, row));
+    assert!(levels.len() == array.width && finished.len() == array.columns);
+    let finished = finished.as_mut_ptr();
+    unsafe { loops_ask(array, cells.as_ptr(), row, levels.as_ptr(), finished) }
+}
+
+/// 0 where it is taken, 17 where the row is not sound.
+pub fn commit(
+    array: &Array,
+    words: &mut Words,
+    cells: &mut [u8],
+    row: usize,
+    finished: &[u8],
+) -> u8 {
+    assert!(array.fits_row(cells, row) && finished.len() == array.columns);
+    unsafe { loops_commit(array, words, cells.as_mut_ptr(), row, finished.as_ptr()) }
 }
 
 pub fn start(array: &Array, words: &mut Words, skip: usize, state: State<&mut [u8]>) {
@@ -241,9 +280,4 @@ pub fn reading(array: &Array, flags: &[u8]) -> Told {
     let mut told = [0; 3];
     unsafe { loops_reading(array, flags.as_ptr(), &mut told) };
     told
-}
-
-pub fn encode(array: &Array, row: &mut [u8]) {
-    assert_eq!(row.len(), array.columns);
-    unsafe { loops_encode(array, row.as_mut_ptr()) }
 }

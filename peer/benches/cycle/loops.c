@@ -1,11 +1,11 @@
-// Clear, program, start, step, task lookup, first match, the panel and the
-// encoder as plain loops in C, to compare speed with, and a full reading of the
+// Clear, program, ask, commit, start, step, task lookup, first match and the
+// panel as plain loops in C, to compare speed with, and a full reading of the
 // flags beside the panel.
 //
 // A program in C would work out sizes and columns once, when it sets the array
 // up, and would trust its own buffers. So these leave out:
-// - questions 1 to 6, questions 7 and 8 of programming, question 15 of the
-//   start, and question 8 of the lookups and the encoder;
+// - questions 1 to 6, questions 7 and 8 of programming, ask and commit, question
+//   15 of the start, and question 8 of the lookups; a commit asks 17;
 // - of question 9, whether the count is that of the place; a step asks that the
 //   cycle is open and that check, digit, column and factor are those of an
 //   opening or of a vector of the schedule;
@@ -269,12 +269,12 @@ void loops_reading(const struct array *array, const uint8_t *flags,
     *panel = (struct panel){total, first, rows};
 }
 
-// The check cells of a row of n cells from its first k.
-void loops_encode(const struct array *array, uint8_t *row)
+// For each check, the sums of the digits of the first cells of a row.
+static void add_digits(const struct array *array, const uint8_t *row,
+                       size_t count, uint16_t sums[8][8])
 {
-    uint16_t sums[8][8] = {{0}};
     uint8_t radix = (uint8_t)array->radix;
-    for (size_t j = 0; j < array->width; j++) {
+    for (size_t j = 0; j < count; j++) {
         uint16_t digits[8] = {0};
         uint8_t rest = row[j];
         for (size_t s = 0; s < array->digits; s++) {
@@ -287,6 +287,16 @@ void loops_encode(const struct array *array, uint8_t *row)
                     sums[l][s] += digits[s];
         }
     }
+}
+
+// The row becomes k levels and their check cells.
+static void finish(const struct array *array, const uint8_t *restrict levels,
+                   uint8_t *restrict row)
+{
+    uint16_t sums[8][8] = {{0}};
+    uint8_t radix = (uint8_t)array->radix;
+    memcpy(row, levels, array->width);
+    add_digits(array, row, array->width, sums);
     for (size_t l = 0; l < array->checks; l++) {
         unsigned level = 0;
         for (size_t s = array->digits; s-- > 0;)
@@ -295,13 +305,49 @@ void loops_encode(const struct array *array, uint8_t *row)
     }
 }
 
+// Whether each digit of a row of n levels sums to 0 over each check.
+static int is_sound(const struct array *array, const uint8_t *row)
+{
+    uint16_t sums[8][8] = {{0}};
+    uint8_t radix = (uint8_t)array->radix;
+    add_digits(array, row, array->columns, sums);
+    for (size_t l = 0; l < array->checks; l++)
+        for (size_t s = 0; s < array->digits; s++)
+            if (sums[l][s] % radix != 0)
+                return 0;
+    return 1;
+}
+
 // The row takes k levels and their check cells.
 void loops_program(const struct array *array, struct record *record,
                    uint8_t *restrict cells, size_t row,
                    const uint8_t *restrict levels)
 {
-    uint8_t *start = cells + row * array->columns;
-    memcpy(start, levels, array->width);
-    loops_encode(array, start);
+    finish(array, levels, cells + row * array->columns);
     *record = idle;
+}
+
+// What programming would write, and the number of cells that it would change.
+size_t loops_ask(const struct array *array, const uint8_t *restrict cells,
+                 size_t row, const uint8_t *restrict levels,
+                 uint8_t *restrict finished)
+{
+    size_t changed = 0;
+    cells += row * array->columns;
+    finish(array, levels, finished);
+    for (size_t j = 0; j < array->columns; j++)
+        changed += cells[j] != finished[j];
+    return changed;
+}
+
+// The row takes n cells, which have to be sound.
+uint8_t loops_commit(const struct array *array, struct record *record,
+                     uint8_t *restrict cells, size_t row,
+                     const uint8_t *restrict finished)
+{
+    if (!is_sound(array, finished))
+        return 17;
+    memcpy(cells + row * array->columns, finished, array->columns);
+    *record = idle;
+    return 0;
 }

@@ -3,11 +3,12 @@
 //! work in turn on the same buffers, which are set to the same bytes before
 //! each run, and must leave the same bytes. A run is timed in pieces; of each
 //! piece the least time of several runs counts. Words given after `--` choose
-//! the lines whose title has one of them. The works are cycles, the encoder, a
-//! belt change (a clear and the programming of every row), task lookups and first
-//! matches. At the end a coarse cycle is timed beside the one of all digits, and
-//! the panel beside a full reading of the flags.
+//! the lines whose title has one of them. The works are cycles, programming, ask
+//! and commit of the same rows, a belt change (a clear and the programming of
+//! every row), task lookups and first matches. At the end a coarse cycle is timed
+//! beside the one of all digits, and the panel beside a full reading of the flags.
 
+mod asks;
 mod belt;
 mod coarse;
 mod in_c;
@@ -15,6 +16,7 @@ mod lookups;
 mod panel;
 #[path = "../../tests/proved_calls/mod.rs"]
 mod proved_calls;
+mod rules;
 mod small_table;
 
 use std::time::{Duration, Instant};
@@ -23,7 +25,9 @@ use lookups::Lookup;
 use peer::testing::naive::spec::questions;
 use peer::testing::random::Random;
 use peer::testing::records::{cycle_of, words_of, Words};
+use peer::testing::rows::sound_row;
 use peer::{Cycle, Phase, Shape, State};
+use small_table::Numbers;
 
 /// The least time that is spent on each line of the table.
 const PATIENCE: Duration = Duration::from_secs(1);
@@ -31,8 +35,8 @@ const PATIENCE: Duration = Duration::from_secs(1);
 /// The least number of runs.
 const RUNS: usize = 7;
 
-/// The steps or lookups of one piece, and the rows of one piece of the encoder or
-/// of a belt change.
+/// The steps or lookups of one piece, and the rows of one piece where they are
+/// programmed, asked for or committed.
 const PIECE: usize = 40;
 
 #[derive(Clone, Copy, PartialEq, Eq)]
@@ -101,8 +105,6 @@ impl Steps {
 enum Work {
     /// A start and steps, one call for each.
     Steps(Steps),
-    /// The check cells of all rows, one call for each.
-    Encode,
     /// A clear and the programming of all rows, one call for each.
     Belt,
     /// Task lookups or first matches.
@@ -113,6 +115,9 @@ enum Work {
 /// there.
 type Pieces = [Vec<Duration>; 3];
 
+/// The time of each build, none for C where it is not there.
+type Times = [Option<Duration>; 3];
+
 fn main() {
     heading();
     for errors in [1, 2, 3] {
@@ -121,7 +126,18 @@ fn main() {
     }
     let largest = Shape::new(2, 8, 2, 247, 4096);
     line("first steps", largest, Work::Steps(Steps::first(2_000)));
-    line("encoder", largest, Work::Encode);
+    if chosen(asks::TITLE) {
+        // the first two have the least to encode for their width
+        for (radix, digits, errors, width) in [
+            (2, 1, 1, 1),
+            (255, 1, 1, 254),
+            (2, 3, 1, 50),
+            (16, 2, 2, 60),
+            (2, 8, 2, 247),
+        ] {
+            asks::lines(Shape::new(radix, digits, errors, width, 4096));
+        }
+    }
     for rows in [64, 512, 4096] {
         let shape = Shape::new(2, 3, 2, 50, rows);
         line("cycle, more rows", shape, whole(shape));
@@ -176,30 +192,42 @@ fn line(title: &str, shape: Shape, work: Work) {
     if !chosen(title) {
         return;
     }
-    let [proved, rust, c] = times(shape, work);
     let (calls, row_steps) = match work {
         Work::Steps(Steps { steps, .. }) => (steps, steps * shape.rows),
-        Work::Encode => (shape.rows, shape.rows),
         Work::Belt => (1 + shape.rows, shape.rows),
         Work::Lookups(_) => (lookups::CALLS, lookups::CALLS * shape.rows),
     };
-    print!("{title:18} {:5} {:6}", shape.radix, shape.digits);
-    print!(" {:6} {:5} {:4}", shape.errors, shape.width, shape.rows);
-    print!(" {calls:5} |");
-    for time in [proved, rust, c] {
-        print!(" {}", cell(9, 1, time.map(micros)));
-    }
-    print!(" |");
-    for time in [proved, rust, c] {
-        let each = time.map(|time| micros(time) * 1e3 / row_steps as f64);
-        print!(" {}", cell(9, 3, each));
-    }
-    print!(" |");
+    print_times(title, shape, calls, row_steps, times(shape, work));
+}
+
+/// Prints a line with the times of so many calls, and of each row in them.
+fn print_times(title: &str, shape: Shape, calls: usize, row_steps: usize, times: Times) {
+    let all = times.map(|time| time.map(micros));
+    let each = all.map(|time| time.map(|time| time * 1e3 / row_steps as f64));
+    begin_line(title, shape, calls);
+    print_numbers(1, all);
+    print_numbers(3, each);
+    let [proved, rust, c] = all;
     for other in [rust, c] {
-        let ratio = proved.zip(other).map(|(a, b)| micros(a) / micros(b));
+        let ratio = proved.zip(other).map(|(proved, other)| proved / other);
         print!(" {}", cell(6, 2, ratio));
     }
     println!();
+}
+
+/// What stands before the numbers of a line.
+fn begin_line(title: &str, shape: Shape, calls: usize) {
+    print!("{title:18} {:5} {:6}", shape.radix, shape.digits);
+    print!(" {:6} {:5} {:4}", shape.errors, shape.width, shape.rows);
+    print!(" {calls:5} |");
+}
+
+/// A number for each build, with so many places behind the point.
+fn print_numbers(places: usize, numbers: Numbers) {
+    for number in numbers {
+        print!(" {}", cell(9, places, number));
+    }
+    print!(" |");
 }
 
 /// Whether the words of the command line choose the title.
@@ -224,10 +252,9 @@ fn cell(width: usize, places: usize, number: Option<f64>) -> String {
 }
 
 /// The least time of each build, none for C where it is not there.
-fn times(shape: Shape, work: Work) -> [Option<Duration>; 3] {
+fn times(shape: Shape, work: Work) -> Times {
     let least = match work {
         Work::Steps(steps) => cycle(shape, steps),
-        Work::Encode => encoder(shape),
         Work::Belt => belt::change(shape),
         Work::Lookups(lookup) => lookup.all(shape),
     };
@@ -243,14 +270,6 @@ fn cycle(shape: Shape, steps: Steps) -> Pieces {
         Build::C => c_steps(shape, steps, bench),
     });
     check_end(&begin, &end, steps, shape);
-    least
-}
-
-/// The least times of the encoder's pieces.
-fn encoder(shape: Shape) -> Pieces {
-    let (least, _) = least(&unencoded(shape), |build, bench| {
-        encode(build, shape, &mut bench.state.cells)
-    });
     least
 }
 
@@ -374,40 +393,15 @@ fn c_steps(shape: Shape, work: Steps, bench: &mut Bench) -> Vec<Duration> {
     pieces
 }
 
-fn encode(build: Build, shape: Shape, cells: &mut [u8]) -> Vec<Duration> {
-    let array = in_c::Array::new(shape);
-    let columns = shape.layout().expect("a good shape").columns();
-    let rows = cells.chunks_exact_mut(columns);
-    match build {
-        Build::Proved => timed_each(rows, |row| assert_eq!(proved_calls::encode(shape, row), 0)),
-        Build::Rust => timed_each(rows, |row| assert_eq!(peer::encode_row(shape, row), Ok(()))),
-        Build::C => timed_each(rows, |row| in_c::encode(&array, row)),
-    }
-}
-
-/// Rows of random levels, with any bytes in their check cells.
-fn unencoded(shape: Shape) -> Bench {
-    let layout = shape.layout().expect("a good shape");
-    let mut random = Random::new(15);
-    let mut cells = Vec::new();
-    for _ in 0..shape.rows {
-        cells.extend(random.levels(layout.levels(), shape.width));
-        cells.extend(random.bytes(layout.checks()));
-    }
-    let mut bench = Bench::fresh(shape);
-    bench.state.cells = cells;
-    bench
-}
-
 /// Rows of random levels with their check cells; in every 16th one cell has
 /// drifted in one binary digit, and every 32nd has a dead line.
 fn drifted(shape: Shape) -> Bench {
     let layout = shape.layout().expect("a good shape");
-    let mut bench = unencoded(shape);
+    let mut bench = Bench::fresh(shape);
     let mut random = Random::new(16);
     let rows = bench.state.cells.chunks_exact_mut(layout.columns());
     for (number, row) in rows.enumerate() {
-        peer::encode(&layout, row);
+        row.copy_from_slice(&sound_row(&mut random, &layout));
         if number % 16 == 5 {
             let column = random.below(layout.columns());
             row[column] ^= 1 << random.below(shape.digits);

@@ -7,6 +7,8 @@ impl<B> Call<B> {
     pub fn row_mut(&mut self) -> Option<&mut usize> {
         match self {
             Call::Program { row, .. }
+            | Call::Ask { row, .. }
+            | Call::Commit { row, .. }
             | Call::Drift { row, .. }
             | Call::Line { row, .. }
             | Call::Sound { row }
@@ -47,10 +49,11 @@ impl<B> Call<B> {
         }
     }
 
-    /// The levels of a rule, or the inputs of a lookup.
+    /// The levels of a rule, the cells of a finished row, or the inputs of a lookup.
     pub fn levels_mut(&mut self) -> Option<&mut Vec<u8>> {
         match self {
-            Call::Program { levels, .. } => Some(levels),
+            Call::Program { levels, .. } | Call::Ask { levels, .. } => Some(levels),
+            Call::Commit { finished, .. } => Some(finished),
             Call::Lookup { inputs, .. } | Call::FirstMatch { inputs } => Some(inputs),
             _ => None,
         }

@@ -6,6 +6,7 @@ use crate::shape::Layout;
 use crate::testing::lent::Own;
 use crate::testing::lines::settable;
 use crate::testing::random::Random;
+use crate::testing::rows::sound_row;
 
 /// Where the arguments of a call come from.
 pub trait Draw {
@@ -14,6 +15,8 @@ pub trait Draw {
 
     /// A row and the levels of a rule for it.
     fn rule(&mut self) -> (usize, Vec<u8>);
+    /// A finished row for a commit.
+    fn finished(&mut self) -> Vec<u8>;
     /// A row.
     fn row(&mut self) -> usize;
     /// A column.
@@ -38,6 +41,18 @@ pub fn call<D: Draw>(name: Name, draw: &mut D) -> Call<D::Buffer> {
             let (row, levels) = draw.rule();
             Call::Program { row, levels }
         }
+        Name::Ask => {
+            let (row, levels) = draw.rule();
+            Call::Ask {
+                row,
+                levels,
+                finished: draw.buffer(Own::Finished),
+            }
+        }
+        Name::Commit => Call::Commit {
+            row: draw.row(),
+            finished: draw.finished(),
+        },
         Name::Drift => Call::Drift {
             row: draw.row(),
             column: draw.column(),
@@ -68,9 +83,6 @@ pub fn call<D: Draw>(name: Name, draw: &mut D) -> Call<D::Buffer> {
             row: draw.row(),
             out: draw.buffer(Own::Out),
         },
-        Name::Encode => Call::Encode {
-            codeword: draw.buffer(Own::Codeword),
-        },
     }
 }
 
@@ -89,6 +101,10 @@ impl Draw for Right<'_> {
         let levels = self.layout.levels();
         let rule = self.random.levels(levels, self.layout.width());
         (self.row(), rule)
+    }
+
+    fn finished(&mut self) -> Vec<u8> {
+        sound_row(self.random, self.layout)
     }
 
     fn row(&mut self) -> usize {

@@ -14,11 +14,11 @@ pub enum Own {
     Matches,
     /// The rule cells of a row.
     Out,
-    /// One row for the encoder.
-    Codeword,
+    /// The finished row of an ask.
+    Finished,
 }
 
-const OWN: [Own; 3] = [Own::Matches, Own::Out, Own::Codeword];
+const OWN: [Own; 3] = [Own::Matches, Own::Out, Own::Finished];
 
 impl Own {
     /// What it is called.
@@ -26,7 +26,7 @@ impl Own {
         match self {
             Own::Matches => "matches",
             Own::Out => "out",
-            Own::Codeword => "codeword",
+            Own::Finished => "finished",
         }
     }
 
@@ -35,7 +35,7 @@ impl Own {
         match self {
             Own::Matches => layout.rows(),
             Own::Out => layout.width(),
-            Own::Codeword => layout.columns(),
+            Own::Finished => layout.columns(),
         }
     }
 }
@@ -81,9 +81,6 @@ impl Lent<()> {
 
     /// The place of the match bytes among all buffers.
     pub const MATCHES: usize = State::<()>::BUFFERS + Own::Matches as usize;
-
-    /// The place of the encoder's row among all buffers.
-    pub const CODEWORD: usize = State::<()>::BUFFERS + Own::Codeword as usize;
 }
 
 impl<B> Lent<B> {

@@ -6,14 +6,18 @@ use crate::testing::draw::{self, some_bytes, some_length, some_number, Draw};
 use crate::testing::lent::Own;
 use crate::testing::lines::settable;
 use crate::testing::random::Random;
+use crate::testing::rows::{any_row, finished_row, sound_row};
 use crate::testing::shapes::layout;
 use crate::testing::skips::too_many;
 
 /// The calls of a list, each as often as its share.
-const SHARES: [Name; 14] = [
+const SHARES: [Name; 17] = [
     Name::Clear,
     Name::Program,
     Name::Program,
+    Name::Ask,
+    Name::Commit,
+    Name::Commit,
     Name::Drift,
     Name::Drift,
     Name::Drift,
@@ -28,15 +32,17 @@ const SHARES: [Name; 14] = [
 ];
 
 /// A list of so many pieces: a piece is one call with arbitrary arguments, a
-/// row programmed and then changed in a few cells and perhaps in its line, or a
-/// cycle that is run to its end, mostly without a disturbance.
+/// row written and then changed in a few cells and perhaps in its line, a row that
+/// is asked for and committed, or a cycle that is run to its end, mostly without a
+/// disturbance.
 pub fn list(random: &mut Random, shape: Shape, pieces: usize) -> Vec<Call<Vec<u8>>> {
     let layout = layout(shape);
     let mut calls = Vec::new();
     for _ in 0..pieces {
-        match random.below(6) {
-            0..=2 => calls.push(some_call(random, &layout)),
+        match random.below(7) {
+            0..=2 => push_some_call(random, &layout, &mut calls),
             3 | 4 => push_changed_row(random, &layout, &mut calls),
+            5 => push_asked_row(random, &layout, &mut calls),
             _ => push_cycle(random, &layout, &mut calls),
         }
     }
@@ -44,18 +50,34 @@ pub fn list(random: &mut Random, shape: Shape, pieces: usize) -> Vec<Call<Vec<u8
 }
 
 /// One call with arbitrary arguments, most of them in range.
-fn some_call(random: &mut Random, layout: &Layout) -> Call<Vec<u8>> {
+fn push_some_call(random: &mut Random, layout: &Layout, calls: &mut Vec<Call<Vec<u8>>>) {
     let name = random.pick(&SHARES);
-    draw::call(name, &mut Mostly { random, layout })
+    let asked = last_asked(layout, calls);
+    let mut mostly = Mostly {
+        random,
+        layout,
+        asked,
+    };
+    calls.push(draw::call(name, &mut mostly));
 }
 
-/// Programs a row, then lets up to four of its cells drift; now and then its line
-/// is set too.
+/// What the last ask of the calls writes that has good levels, if there is one.
+fn last_asked(layout: &Layout, calls: &[Call<Vec<u8>>]) -> Option<Vec<u8>> {
+    let is_rule = |levels: &[u8]| {
+        layout.ask_length(levels, layout.width()).is_ok() && layout.ask_levels(levels).is_ok()
+    };
+    calls.iter().rev().find_map(|call| match call {
+        Call::Ask { levels, .. } if is_rule(levels) => Some(finished_row(layout, levels)),
+        _ => None,
+    })
+}
+
+/// Writes a row, then lets up to four of its cells drift; now and then its line is
+/// set too.
 fn push_changed_row(random: &mut Random, layout: &Layout, calls: &mut Vec<Call<Vec<u8>>>) {
     let row = random.below(layout.rows());
     if random.one_in(2) {
-        let levels = random.levels(layout.levels(), layout.width());
-        calls.push(Call::Program { row, levels });
+        calls.push(right_row(random, layout, row));
     }
     for _ in 0..random.below(5) {
         calls.push(Call::Drift {
@@ -66,6 +88,41 @@ fn push_changed_row(random: &mut Random, layout: &Layout, calls: &mut Vec<Call<V
     }
     if random.one_in(3) {
         calls.push(right_line(random, row));
+    }
+}
+
+/// A row is programmed with any levels, or their finished row is committed.
+fn right_row(random: &mut Random, layout: &Layout, row: usize) -> Call<Vec<u8>> {
+    let levels = random.levels(layout.levels(), layout.width());
+    if random.one_in(2) {
+        Call::Program { row, levels }
+    } else {
+        let finished = finished_row(layout, &levels);
+        Call::Commit { row, finished }
+    }
+}
+
+/// Asks for a row and commits what the ask writes, or something else, for that row
+/// or another one; a few other calls may come between.
+fn push_asked_row(random: &mut Random, layout: &Layout, calls: &mut Vec<Call<Vec<u8>>>) {
+    let [row, other] = [(); 2].map(|()| random.below(layout.rows()));
+    calls.push(right_ask(random, layout, row));
+    let asked = last_asked(layout, calls).expect("the ask");
+    for _ in 0..random.below(4) {
+        push_disturbance(random, layout, calls);
+    }
+    calls.push(Call::Commit {
+        row: random.pick(&[row, other]),
+        finished: any_row(random, layout, &asked),
+    });
+}
+
+/// A row is asked for with any levels.
+fn right_ask(random: &mut Random, layout: &Layout, row: usize) -> Call<Vec<u8>> {
+    Call::Ask {
+        row,
+        levels: random.levels(layout.levels(), layout.width()),
+        finished: random.bytes(layout.columns()),
     }
 }
 
@@ -89,23 +146,23 @@ fn push_cycle(random: &mut Random, layout: &Layout, calls: &mut Vec<Call<Vec<u8>
             matches: random.bytes(layout.rows()),
         });
         if disturbed && random.one_in(steps) {
-            calls.push(some_disturbance(random, layout));
+            push_disturbance(random, layout, calls);
         }
     }
 }
 
-/// A call that comes into a cycle: any, a start that is refused, or a line that
-/// is set.
-fn some_disturbance(random: &mut Random, layout: &Layout) -> Call<Vec<u8>> {
-    match random.below(4) {
-        0 => Call::Start {
+/// A call that comes into a cycle: any, a start that is refused, a line that is
+/// set, or an ask, perhaps with its commit.
+fn push_disturbance(random: &mut Random, layout: &Layout, calls: &mut Vec<Call<Vec<u8>>>) {
+    let row = random.below(layout.rows());
+    match random.below(6) {
+        0 => calls.push(Call::Start {
             skip: random.pick(&too_many(layout.digits())),
-        },
-        1 => {
-            let row = random.below(layout.rows());
-            right_line(random, row)
-        }
-        _ => some_call(random, layout),
+        }),
+        1 => calls.push(right_line(random, row)),
+        2 => calls.push(right_ask(random, layout, row)),
+        3 => push_asked_row(random, layout, calls),
+        _ => push_some_call(random, layout, calls),
     }
 }
 
@@ -113,6 +170,8 @@ fn some_disturbance(random: &mut Random, layout: &Layout) -> Call<Vec<u8>> {
 struct Mostly<'a> {
     random: &'a mut Random,
     layout: &'a Layout,
+    /// What an ask before wrote, if there is one.
+    asked: Option<Vec<u8>>,
 }
 
 impl Mostly<'_> {
@@ -134,6 +193,15 @@ impl Draw for Mostly<'_> {
 
     fn rule(&mut self) -> (usize, Vec<u8>) {
         (self.row(), self.levels())
+    }
+
+    /// Mostly as many bytes as there are columns.
+    fn finished(&mut self) -> Vec<u8> {
+        let asked = self.asked.take();
+        let asked = asked.unwrap_or_else(|| sound_row(self.random, self.layout));
+        let mut finished = any_row(self.random, self.layout, &asked);
+        finished.resize(some_length(self.random, finished.len()), 0);
+        finished
     }
 
     fn row(&mut self) -> usize {

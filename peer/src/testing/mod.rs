@@ -15,20 +15,24 @@
 //!
 //! - [`random`]: the generator of numbers;
 //! - [`shapes`], [`records`], [`jobs`], [`damage`]: what is drawn from it;
+//! - [`rows`], [`arrays`]: rows of cells, and arrays with any bytes in them;
 //! - [`draw`], [`arguments`], [`lists`]: the generator of calls, the arguments of
 //!   a call, and lists of calls;
 //! - [`lent`], [`guard`]: what is lent to a call, and the bytes around it;
 //! - [`panels`]: an example, flags and totals for the panel, and what it did;
+//! - [`asks`]: an example of ask and commit, and what was seen of them;
 //! - [`lines`]: an example of a dead line, line bytes of every kind, records
 //!   beside that of an opening, and what was seen of dead lines;
 //! - [`skips`]: an example of coarse cycles, numbers of digits that no start
 //!   takes, and what was seen of skipped digits;
-//! - [`verdict`]: what a flag says after a cycle;
+//! - [`log`], [`verdict`]: what a list did, and what a flag says after a cycle;
 //! - [`naive`]: the definitions to compare with;
 //! - [`tally`], [`counts`], [`mod@print`], [`program`]: what was seen, how it is
 //!   printed, and a program that is fed.
 
 pub mod arguments;
+pub mod arrays;
+pub mod asks;
 pub mod counts;
 pub mod damage;
 pub mod draw;
@@ -37,12 +41,14 @@ pub mod jobs;
 pub mod lent;
 pub mod lines;
 pub mod lists;
+pub mod log;
 pub mod naive;
 pub mod panels;
 pub mod print;
 pub mod program;
 pub mod random;
 pub mod records;
+pub mod rows;
 pub mod settings;
 pub mod shapes;
 pub mod skips;

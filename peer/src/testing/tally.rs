@@ -16,9 +16,10 @@ pub struct Tally(BTreeMap<(Name, u8), usize>);
 fn own_questions(name: Name) -> &'static [u8] {
     match name {
         Name::Clear | Name::Panel => &[],
-        Name::Program | Name::Drift => &[7, 8],
+        Name::Program | Name::Ask | Name::Drift => &[7, 8],
+        Name::Commit => &[7, 8, 17],
         Name::Line => &[7, 16],
-        Name::Lookup | Name::FirstMatch | Name::Encode => &[8],
+        Name::Lookup | Name::FirstMatch => &[8],
         Name::Start | Name::Run => &[15],
         Name::Step => &[9],
         Name::Sound | Name::Read => &[7],

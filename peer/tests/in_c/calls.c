@@ -1,6 +1,7 @@
 // The calls by their header: document 01's rows M1, M2 and M5, a drift, the cycle that finds it,
-// what the panel is told, coarse cycles, a dead match line, and refusals. The exit status is the
-// number of the first line of this file that is not as it should be, modulo 255 and never 0, or 0.
+// what the panel is told, coarse cycles, a dead match line, a row that is asked for and committed,
+// and refusals. The exit status is the number of the first line of this file that is not as it
+// should be, modulo 255 and never 0, or 0.
 #include "jorivelune.h"
 
 #include <string.h>
@@ -82,10 +83,8 @@ static int whole_cycle(void)
     EXPECT(total == 0 && first == 0 && read == 0);
     EXPECT(jorivelune_sound(shape, cells, 8, 2, &holds) == 7 && !holds);
     EXPECT(jorivelune_drift(shape, cells, 8, 0, 0, 8) == 8 && cells[0] == 5);
-    uint8_t row[4] = {5, 2, 1, 0};
-    EXPECT(jorivelune_encode(shape, row, 4) == 0 && memcmp(row, m1, 4) == 0);
     shape.digits = 0;
-    EXPECT(jorivelune_encode(shape, row, 4) == 2);
+    EXPECT(jorivelune_sound(shape, cells, 8, 0, &holds) == 2);
     return 0;
 }
 
@@ -254,6 +253,67 @@ static int dead_line(void)
     return 0;
 }
 
+// A row that holds 5 2 1 is asked for as 4 3 1 while a cycle is open, which goes on; the first two
+// cells would change. What the ask wrote is committed, and leaves what programming leaves.
+static int asked_row(void)
+{
+    const struct jorivelune_shape shape = {2, 3, 1, 3, 2};
+    const uint8_t m1[4] = {5, 2, 1, 6}, m2[4] = {4, 3, 1, 6};
+    const size_t idle[JORIVELUNE_WORDS] = {0};
+    size_t record[JORIVELUNE_WORDS] = {0}, before[JORIVELUNE_WORDS], changed = 9;
+    uint8_t cells[8], lines[2], counters[2], flags[2], totals[1], matches[2];
+    uint8_t finished[4] = {7, 7, 7, 7}, left[4];
+
+    EXPECT(jorivelune_clear(record, shape, cells, 8, lines, 2, counters, 2, flags, 2,
+                            totals, 1) == 0);
+    EXPECT(jorivelune_program(record, shape, cells, 8, 0, m1, 3) == 0);
+    EXPECT(jorivelune_line(shape, lines, 2, 0, 1) == 0);
+    EXPECT(jorivelune_start(record, shape, 1, counters, 2, flags, 2, totals, 1) == 0);
+    EXPECT(jorivelune_step(record, shape, cells, 8, lines, 2, counters, 2, flags, 2, totals, 1,
+                           matches, 2) == 0);
+    memcpy(before, record, sizeof record);
+    EXPECT(jorivelune_ask(shape, cells, 8, 0, m2, 3, finished, 4, &changed) == 0);
+    EXPECT(changed == 2 && memcmp(finished, m2, 4) == 0);
+    EXPECT(memcmp(cells, m1, 4) == 0 && memcmp(before, record, sizeof record) == 0);
+    EXPECT(jorivelune_step(record, shape, cells, 8, lines, 2, counters, 2, flags, 2, totals, 1,
+                           matches, 2) == 0);
+
+    // a refused ask leaves the buffer and says 0: a level too high, no such row, wrong lengths
+    const uint8_t high[3] = {5, 2, 8};
+    EXPECT(jorivelune_ask(shape, cells, 8, 1, high, 3, finished, 4, &changed) == 8);
+    EXPECT(changed == 0 && memcmp(finished, m2, 4) == 0);
+    changed = 9;
+    EXPECT(jorivelune_ask(shape, cells, 8, 2, high, 3, finished, 4, &changed) == 7 && changed == 0);
+    EXPECT(jorivelune_ask(shape, cells, 8, 2, high, 3, finished, 3, &changed) == 6);
+    EXPECT(jorivelune_ask(shape, cells, 8, 2, high, 2, finished, 4, &changed) == 6);
+    EXPECT(jorivelune_ask(shape, cells, 7, 2, high, 3, finished, 4, &changed) == 6);
+    EXPECT(memcmp(finished, m2, 4) == 0);
+
+    // a refused commit: not sound, a byte too high, no such row, wrong lengths
+    const uint8_t m3[4] = {5, 2, 0, 6}, above[4] = {8, 0, 0, 0};
+    memcpy(before, record, sizeof record);
+    EXPECT(jorivelune_commit(record, shape, cells, 8, 0, m3, 4) == 17);
+    EXPECT(jorivelune_commit(record, shape, cells, 8, 0, above, 4) == 8);
+    EXPECT(jorivelune_commit(record, shape, cells, 8, 2, above, 4) == 7);
+    EXPECT(jorivelune_commit(record, shape, cells, 8, 2, above, 3) == 6);
+    EXPECT(jorivelune_commit(record, shape, cells, 7, 2, above, 4) == 6);
+    EXPECT(memcmp(cells, m1, 4) == 0 && memcmp(before, record, sizeof record) == 0);
+
+    // the commit: the row and an idle record, and nothing else
+    EXPECT(flags[0] == 1 && totals[0] == 1);
+    memcpy(left, cells + 4, 4);
+    EXPECT(jorivelune_commit(record, shape, cells, 8, 0, finished, 4) == 0);
+    EXPECT(memcmp(cells, m2, 4) == 0 && memcmp(cells + 4, left, 4) == 0);
+    EXPECT(memcmp(idle, record, sizeof record) == 0 && memcmp(finished, m2, 4) == 0);
+    EXPECT(flags[0] == 1 && flags[1] == 0 && totals[0] == 1 && lines[0] == 1);
+    EXPECT(jorivelune_ask(shape, cells, 8, 0, m2, 3, finished, 4, &changed) == 0 && changed == 0);
+    EXPECT(jorivelune_line(shape, lines, 2, 0, 0) == 0);
+    EXPECT(jorivelune_run(record, shape, 0, cells, 8, lines, 2, counters, 2, flags, 2, totals, 1,
+                          matches, 2) == 0);
+    EXPECT(flags[0] == 0 && flags[1] == 0 && totals[0] == 0);
+    return 0;
+}
+
 int main(void)
 {
     int wrong = whole_cycle();
@@ -261,5 +321,7 @@ int main(void)
         wrong = coarse_cycles();
     if (!wrong)
         wrong = dead_line();
+    if (!wrong)
+        wrong = asked_row();
     return wrong ? wrong : decimal_digits();
 }

@@ -1,5 +1,6 @@
 //! A list on one shape, on its way through both builds.
 
+use peer::testing::asks::Asks;
 use peer::testing::draw::{self, Right};
 use peer::testing::guard::Guarded;
 use peer::testing::lent::{Lent, Own};
@@ -31,6 +32,8 @@ pub struct Seen {
     /// Forged records that a step refused, and such with a phase of no name.
     pub forged: usize,
     pub nameless: usize,
+    /// What was asked for and committed.
+    pub asks: Asks,
     /// What was done with skipped digits.
     pub skips: Skips,
     /// What lines the calls were lent.
@@ -66,6 +69,7 @@ impl<'a> List<'a> {
         };
         let lines = any_lines(&mut random, shape.rows);
         side.lent.state.lines.copy_from_slice(&lines);
+        seen.asks.begin_list();
         let mut list = List {
             random,
             shape,
@@ -126,7 +130,8 @@ impl<'a> List<'a> {
         let (proved, arguments) = self.proved.proved(&drawn);
         let ours = self.ours.ours(&drawn);
         let unwritten = arguments == drawn.call.clone().map(|_| ());
-        self.events.note(Event::Call(drawn));
+        let made = self.ours.left(&drawn);
+        self.events.note(Event::Call(drawn.clone()));
         if proved != Some(ours) {
             self.fail(&format!("the answers {proved:?} and {ours:?}"));
         }
@@ -136,6 +141,7 @@ impl<'a> List<'a> {
         self.compare();
         let after = self.record();
         self.seen.tally.add(name, ours);
+        self.seen.asks.add(drawn.shape, &made, ours, before);
         self.seen.skips.add(name, ours, before, after);
         self.seen.lines.add(name, ours, before, &lines);
         self.seen.by_errors[self.shape.errors] += 1;
@@ -177,6 +183,13 @@ impl<'a> List<'a> {
 
     pub fn record(&self) -> Cycle {
         cycle_of(&self.ours.words)
+    }
+
+    /// What the last ask wrote, or what else stands in its buffer.
+    pub fn asked(&self) -> Vec<u8> {
+        let mut finished = self.ours.lent.own[Own::Finished as usize].clone();
+        finished.set_length(self.layout.columns());
+        finished.to_vec()
     }
 
     /// Somebody else writes bytes into a buffer.

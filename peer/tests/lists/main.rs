@@ -4,6 +4,7 @@
 //!
 //! The library is ../target/staticlib/libffi.a, made by rt staticlib ffi.
 
+mod asks;
 mod coarse;
 mod drawn;
 mod event;
@@ -56,6 +57,7 @@ fn random_lists_leave_the_same() {
     assert!(seen.whole.iter().all(|&cycles| cycles >= 200));
     assert!(seen.forged >= 1_000 && seen.nameless >= 100);
     seen.tally.assert_complete();
+    seen.asks.assert_each(80);
     seen.skips.assert_each(80);
     seen.lines.assert_each(80);
     seen.panels.assert_each(1);

@@ -5,6 +5,7 @@ use peer::testing::lent::{wrong_lengths, Lent};
 use peer::testing::lines::{any_lines, WITH_LINES};
 use peer::testing::panels::{foreign, WITH_TOTALS};
 use peer::testing::records::{forged, words_of};
+use peer::testing::rows::any_row;
 use peer::testing::skips::too_many;
 use peer::{Answer, Call, Cycle, Name, Phase, Shape};
 
@@ -17,6 +18,17 @@ const LINES: usize = 1;
 const COUNTERS: usize = 2;
 const FLAGS: usize = 3;
 const TOTALS: usize = 4;
+
+/// Calls that come between an ask and its commit.
+const BETWEEN: [Name; 7] = [
+    Name::Drift,
+    Name::Line,
+    Name::Lookup,
+    Name::Program,
+    Name::Start,
+    Name::Step,
+    Name::Step,
+];
 
 /// Phases without a name.
 const NAMELESS: [usize; 9] = [3, 4, 255, 256, 257, 258, 1 << 32, (1 << 32) + 1, usize::MAX];
@@ -32,6 +44,9 @@ impl List<'_> {
     /// A call with some things wrong in it, or none.
     fn any(&mut self, name: Name) -> Drawn {
         let mut drawn = self.right(name);
+        if let Call::Commit { finished, .. } = &mut drawn.call {
+            *finished = self.any_row();
+        }
         let room = self.ours.lent.each().map(|buffer| buffer.room());
         drawn.spoil(&mut self.random, &self.layout, room);
         if let Call::Run { skip, .. } = drawn.call {
@@ -42,21 +57,50 @@ impl List<'_> {
         drawn
     }
 
+    /// A row to commit: what the last ask wrote, or something else.
+    fn any_row(&mut self) -> Vec<u8> {
+        let asked = self.asked();
+        any_row(&mut self.random, &self.layout, &asked)
+    }
+
     /// One call of any name.
     fn one_call(&mut self) {
         let name = self.random.pick(Name::ALL);
-        if name == Name::Encode && !self.random.one_in(4) {
-            let levels = self.random.levels(self.layout.levels(), self.shape.width);
-            self.write(Lent::CODEWORD, 0, levels);
-        }
         let call = self.any(name);
         self.make(call);
     }
 
-    /// A row is programmed, a few of its cells drift, and it is looked at.
+    /// A row is asked for and committed, as the ask wrote it or otherwise, for that
+    /// row or another one, and now and then asked for again. Often a cycle is open,
+    /// and other calls come between.
+    fn asked_row(&mut self) {
+        if self.random.one_in(2) {
+            self.jump();
+        }
+        let mut ask = self.right(Name::Ask);
+        let asked_for = *ask.call.row_mut().expect("a call on a row");
+        self.make(ask.clone());
+        for _ in 0..self.random.below(4) {
+            let name = self.random.pick(&BETWEEN);
+            let call = self.right(name);
+            self.make(call);
+        }
+        let other = self.random.below(self.shape.rows);
+        let row = self.random.pick(&[asked_for, other]);
+        let finished = self.any_row();
+        let commit = self.lent(Call::Commit { row, finished });
+        self.make(commit);
+        if self.random.one_in(2) {
+            self.make(ask);
+        }
+    }
+
+    /// A row is programmed or committed, a few of its cells drift, and it is looked
+    /// at.
     pub fn changed_row(&mut self) {
         let row = self.random.below(self.shape.rows);
-        let mut names = vec![Name::Program, Name::Sound, Name::Read];
+        let written = self.random.pick(&[Name::Program, Name::Commit]);
+        let mut names = vec![written, Name::Sound, Name::Read];
         for _ in 0..self.random.below(4) {
             names.insert(1, Name::Drift);
         }
@@ -238,13 +282,17 @@ impl List<'_> {
 
     /// Something else than the next step.
     fn disturb(&mut self) {
-        match self.random.below(8) {
+        match self.random.below(9) {
             0 => self.forged_step(),
             1 | 2 => self.foreign_bytes(),
             3 => self.one_call(),
             4 => self.jump(),
             5 => self.step_with_other_skip(),
             6 => self.refused_start(),
+            7 => {
+                let ask = self.right(Name::Ask);
+                self.make(ask);
+            }
             _ => {
                 let call = self.any(Name::Step);
                 self.make(call);
@@ -309,10 +357,11 @@ impl List<'_> {
     /// So many pieces, with cycles of so many steps at most.
     pub fn pieces(&mut self, pieces: usize, steps: usize) {
         for _ in 0..pieces {
-            match self.random.below(15) {
+            match self.random.below(17) {
                 0..=4 => (0..9).for_each(|_| self.one_call()),
                 5 | 6 => self.changed_row(),
                 14 => self.set_row(),
+                15 | 16 => (0..3).for_each(|_| self.asked_row()),
                 7 => self.forged_step(),
                 8 => self.foreign_bytes(),
                 9 => {

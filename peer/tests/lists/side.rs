@@ -27,6 +27,12 @@ impl Side {
         (&mut self.words, state, call)
     }
 
+    /// A call that was made, with the bytes that it left in its own buffer.
+    pub fn left(&self, drawn: &Drawn) -> Call<Vec<u8>> {
+        let call = drawn.call.clone();
+        call.map(|which| self.lent.own[which as usize].to_vec())
+    }
+
     /// Makes a call of the proved library. Gives its arguments too, as it
     /// leaves them.
     pub fn proved(&mut self, drawn: &Drawn) -> (Option<Answer>, Call<()>) {

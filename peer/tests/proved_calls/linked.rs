@@ -71,6 +71,15 @@ linked! {
         levels: *const u8,
         levels_length: usize,
     ) -> u8;
+    fn jorivelune_commit(
+        words: *mut Words,
+        shape: Numbers,
+        cells: *mut u8,
+        cells_length: usize,
+        row: usize,
+        finished: *const u8,
+        finished_length: usize,
+    ) -> u8;
     fn jorivelune_start(
         words: *mut Words,
         shape: Numbers,
@@ -148,7 +157,17 @@ linked! {
         out: *mut u8,
         out_length: usize,
     ) -> u8;
-    fn jorivelune_encode(shape: Numbers, codeword: *mut u8, codeword_length: usize) -> u8;
+    fn jorivelune_ask(
+        shape: Numbers,
+        cells: *const u8,
+        cells_length: usize,
+        row: usize,
+        levels: *const u8,
+        levels_length: usize,
+        finished: *mut u8,
+        finished_length: usize,
+        changed: *mut usize,
+    ) -> u8;
     fn jorivelune_lookup(
         shape: Numbers,
         cells: *const u8,

@@ -25,13 +25,21 @@ pub fn make<S: Bytes, B: Bytes>(
     let number = match call {
         Call::Clear => clear(words, shape, state.lend()),
         Call::Program { row, levels } => program(words, shape, cells, *row, levels),
+        Call::Commit { row, finished } => commit(words, shape, cells, *row, finished),
         Call::Start { skip } => start(words, shape, *skip, state.lend()),
         Call::Step { matches } => step(words, shape, state.lend(), matches),
         Call::Run { skip, matches } => run(words, shape, *skip, state.lend(), matches),
         Call::Drift { row, column, level } => drift(shape, cells, *row, *column, *level),
         Call::Line { row, byte } => line(shape, lines, *row, *byte),
         Call::Read { row, out } => read(shape, cells, *row, out),
-        Call::Encode { codeword } => encode(shape, codeword),
+        Call::Ask {
+            row,
+            levels,
+            finished,
+        } => {
+            let (number, changed) = ask(shape, cells, *row, levels, finished);
+            return with_value(number, changed, |changed| Some(Answer::Changed(changed)));
+        }
         Call::Lookup { inputs, matches } => {
             let (number, count) = lookup(shape, cells, lines, inputs, matches);
             return with_value(number, count, |count| Some(Answer::Count(count)));
@@ -114,19 +122,33 @@ pub fn clear(words: &mut Words, shape: Shape, state: State<&mut [u8]>) -> u8 {
     }
 }
 
-pub fn program(words: &mut Words, shape: Shape, cells: &mut [u8], row: usize, levels: &[u8]) -> u8 {
-    unsafe {
-        jorivelune_program(
-            words,
-            shape.into(),
-            cells.as_mut_ptr(),
-            cells.len(),
-            row,
-            levels.as_ptr(),
-            levels.len(),
-        )
-    }
+/// Program and commit are given the same, but for what is to be in the row.
+macro_rules! writing {
+    ($name:ident, $linked:ident, $given:ident) => {
+        pub fn $name(
+            words: &mut Words,
+            shape: Shape,
+            cells: &mut [u8],
+            row: usize,
+            $given: &[u8],
+        ) -> u8 {
+            unsafe {
+                $linked(
+                    words,
+                    shape.into(),
+                    cells.as_mut_ptr(),
+                    cells.len(),
+                    row,
+                    $given.as_ptr(),
+                    $given.len(),
+                )
+            }
+        }
+    };
 }
+
+writing!(program, jorivelune_program, levels);
+writing!(commit, jorivelune_commit, finished);
 
 pub fn start(words: &mut Words, shape: Shape, skip: usize, state: State<&mut [u8]>) -> u8 {
     unsafe {
@@ -202,12 +224,33 @@ pub fn read(shape: Shape, cells: &[u8], row: usize, out: &mut [u8]) -> u8 {
     }
 }
 
-pub fn encode(shape: Shape, codeword: &mut [u8]) -> u8 {
-    unsafe { jorivelune_encode(shape.into(), codeword.as_mut_ptr(), codeword.len()) }
-}
-
 // A result that goes out beside the number starts with a value that no call
 // gives, so that one which is not written is seen.
+
+/// The number, and the count of cells that would change.
+pub fn ask(
+    shape: Shape,
+    cells: &[u8],
+    row: usize,
+    levels: &[u8],
+    finished: &mut [u8],
+) -> (u8, usize) {
+    let mut changed = usize::MAX;
+    let number = unsafe {
+        jorivelune_ask(
+            shape.into(),
+            cells.as_ptr(),
+            cells.len(),
+            row,
+            levels.as_ptr(),
+            levels.len(),
+            finished.as_mut_ptr(),
+            finished.len(),
+            &mut changed,
+        )
+    };
+    (number, changed)
+}
 
 /// The number, and the count of matches.
 pub fn lookup(

@@ -25,6 +25,12 @@ pub fn make(array: &mut Array, call: &mut Call<Vec<u8>>) -> Answer {
     match call {
         Call::Clear => Answer::done(clear(array)),
         Call::Program { row, levels } => Answer::done(program(array, *row, levels)),
+        Call::Ask {
+            row,
+            levels,
+            finished,
+        } => Answer::of(ask_row(array, *row, levels, finished), Answer::Changed),
+        Call::Commit { row, finished } => Answer::done(commit(array, *row, finished)),
         Call::Drift { row, column, level } => Answer::done(drift(array, *row, *column, *level)),
         Call::Line { row, byte } => Answer::done(line(array, *row, *byte)),
         Call::Lookup { inputs, matches } => {
@@ -37,7 +43,6 @@ pub fn make(array: &mut Array, call: &mut Call<Vec<u8>>) -> Answer {
         Call::FirstMatch { inputs } => Answer::of(first_match(array, inputs), Answer::Row),
         Call::Sound { row } => Answer::of(sound(array, *row), Answer::Sound),
         Call::Read { row, out } => Answer::done(read(array, *row, out)),
-        Call::Encode { codeword } => Answer::done(encode(array, codeword)),
     }
 }
 
@@ -83,10 +88,37 @@ fn program(array: &mut Array, row: usize, levels: &[u8]) -> Result<(), u8> {
     ask(levels.len() == array.shape.width, 6)?;
     ask(row < array.shape.rows, 7)?;
     ask(all_below(levels, spec.levels), 8)?;
-    for (column, cell) in spec.encoded(levels).into_iter().enumerate() {
+    write_row(&spec, array, row, &spec.encoded(levels));
+    Ok(())
+}
+
+/// The row takes the cells, and the record becomes idle.
+fn write_row(spec: &Spec, array: &mut Array, row: usize, cells: &[u8]) {
+    for (column, &cell) in cells.iter().enumerate() {
         array.state.cells[row * spec.columns() + column] = cell;
     }
     array.cycle = IDLE;
+}
+
+fn ask_row(array: &Array, row: usize, levels: &[u8], finished: &mut Vec<u8>) -> Result<usize, u8> {
+    let spec = ask_cells(array)?;
+    ask(levels.len() == array.shape.width, 6)?;
+    ask(finished.len() == spec.columns(), 6)?;
+    ask(row < array.shape.rows, 7)?;
+    ask(all_below(levels, spec.levels), 8)?;
+    *finished = spec.encoded(levels);
+    let standing = spec.row(&array.state.cells, row);
+    let changes = |&column: &usize| finished[column] != standing[column];
+    Ok((0..spec.columns()).filter(changes).count())
+}
+
+fn commit(array: &mut Array, row: usize, finished: &[u8]) -> Result<(), u8> {
+    let spec = ask_cells(array)?;
+    ask(finished.len() == spec.columns(), 6)?;
+    ask(row < array.shape.rows, 7)?;
+    ask(all_below(finished, spec.levels), 8)?;
+    ask(spec.is_sound(finished), 17)?;
+    write_row(&spec, array, row, finished);
     Ok(())
 }
 
@@ -240,14 +272,5 @@ fn read(array: &Array, row: usize, out: &mut Vec<u8>) -> Result<(), u8> {
     ask(out.len() == array.shape.width, 6)?;
     ask(row < array.shape.rows, 7)?;
     *out = spec.row(&array.state.cells, row)[..array.shape.width].to_vec();
-    Ok(())
-}
-
-fn encode(array: &Array, codeword: &mut Vec<u8>) -> Result<(), u8> {
-    let spec = questions(array.shape)?;
-    ask(codeword.len() == spec.columns(), 6)?;
-    let levels = &codeword[..array.shape.width];
-    ask(all_below(levels, spec.levels), 8)?;
-    *codeword = spec.encoded(levels);
     Ok(())
 }

@@ -4,7 +4,7 @@ use super::schedule::{Lookup, Vector};
 use crate::shape::Shape;
 
 /// A shape that passed questions 1 to 5, with what follows from it.
-#[derive(Clone, Debug)]
+#[derive(Clone, Debug, PartialEq, Eq)]
 pub struct Spec {
     /// The shape.
     pub shape: Shape,
