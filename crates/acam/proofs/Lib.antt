@@ -1,5 +1,4 @@
 -- The laws that several functions' proofs cite, here and in the crates above.
-pub mod Sizes
 pub mod Weights
 pub mod Blocks
 pub mod MatrixArray

@@ -12,7 +12,7 @@ use Rattle.parity.specs.declared.Shape.{Shape}
 use Rattle.parity.proofs.Redundancy.{redundancyClaim}
 use Rattle.parity.proofs.MatrixFacts.{rules-sized, matrixClaim}
 use Rattle.acam.specs.Matrices.{matrixArray}
-use Rattle.acam.proofs.Sizes.{columns-high}
+use Rattle.parity.proofs.Sizes.{columns-high}
 
 -- the array before anything is written
 abbrev pub zeros : List ℕ

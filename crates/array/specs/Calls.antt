@@ -12,7 +12,7 @@ use Rattle.parity.specs.declared.Shape.{Shape}
 use Rattle.shape.specs.Answers.{Said, Result, accepted, answering, giving, calling}
 use Rattle.array_memory.specs.Geometry.{rowAt, withRow}
 use Rattle.array_memory.specs.Memory.{Memory, withCells, withLines}
-use Rattle.array_memory.specs.Questions.{cellsQuestions, driftArguments, rowArguments, lineQuestions, askArguments}
+use Rattle.array_questions.specs.Questions.{cellsQuestions, driftArguments, rowArguments, lineQuestions, askArguments}
 
 -- ---- drift
 

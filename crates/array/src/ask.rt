@@ -1,7 +1,7 @@
 // Ask: a row as programming would write it, seen before it goes live.
 use super::change::program_row;
-use array_memory::questions::check_finished;
-use array_memory::questions::check_program;
+use array_questions::check_finished;
+use array_questions::check_program;
 use parity::Shape;
 use shape::answer::Answer;
 use shape::byte::count_differences;

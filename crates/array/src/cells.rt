@@ -1,8 +1,8 @@
 // The calls that look at one row of an array: sound and read.
 use acam::matrix::matrix_of;
 use acam::sound::is_sound;
-use array_memory::questions::check_cells;
-use array_memory::questions::check_row;
+use array_questions::check_cells;
+use array_questions::check_row;
 use parity::Shape;
 use shape::answer::Outcome;
 use shape::answer::Verdict;

@@ -1,6 +1,6 @@
 // Changes of the cells: the writing of a row, and drift.
 use acam::encode::write_checks;
-use array_memory::questions::check_drift;
+use array_questions::check_drift;
 use parity::Shape;
 use shape::answer::Outcome;
 use shape::byte::copy;
@@ -17,7 +17,7 @@ ghost use Rattle.shape.specs.Shapes.{sizesOf};
 ghost use Rattle.shape.specs.Answers.{outcomeSays, giving};
 ghost use Rattle.array_memory.specs.Geometry.{withRow};
 ghost use Rattle.array_memory.specs.Memory.{Memory, withCells};
-ghost use Rattle.array_memory.specs.Questions.{cellsQuestions, programArguments};
+ghost use Rattle.array_questions.specs.Questions.{cellsQuestions, programArguments};
 ghost use Rattle.array.specs.Calls.{driftCall};
 
 // Writes k levels into a lent row of n cells, and its check cells.

@@ -1,5 +1,5 @@
 // The setting of a match line.
-use array_memory::questions::check_line;
+use array_questions::check_line;
 use parity::Shape;
 use shape::answer::Outcome;
 use shape::sizes::Checked;

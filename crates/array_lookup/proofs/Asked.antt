@@ -8,8 +8,8 @@ use borrow.Author.Tests.{eqb-true}
 use Rattle.parity.specs.Questions.{firstNo}
 use Rattle.parity.specs.declared.Shape.{Shape}
 use Rattle.parity.proofs.Taken.{first-yes}
-use Rattle.array_memory.specs.Questions.{cellsQuestions}
-use Rattle.array_memory.proofs.Asked.{CellsTaken, cells-parts}
+use Rattle.array_questions.specs.Questions.{cellsQuestions}
+use Rattle.array_questions.proofs.Asked.{CellsTaken, cells-parts}
 use Rattle.array_lookup.specs.Lookups.{lookupArguments}
 
 pub record LookupTaken (s : Shape) (count lineCount rows : ℕ) (inputs : List ℕ) : Type 0 where

@@ -17,7 +17,7 @@ use Rattle.shape.specs.Shapes.{sizesOf}
 use Rattle.array_memory.specs.Geometry.{rowAt, rowMatch}
 use Rattle.array_memory.specs.Memory.{cellCount}
 use Rattle.array_memory.proofs.RowPlaces.{row-sized}
-use Rattle.array_memory.proofs.Asked.{CellsTaken}
+use Rattle.array_questions.proofs.Asked.{CellsTaken}
 
 -- the match byte of row i, of n cells, for inputs to its first cells
 abbrev pub byteOf : List ℕ → List ℕ → List ℕ → ℕ → ℕ → ℕ

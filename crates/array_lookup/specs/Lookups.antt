@@ -11,7 +11,7 @@ use Rattle.parity.specs.declared.Shape.{Shape}
 use Rattle.shape.specs.Answers.{Said, Found, none, rowOrNone, Result, accepted, answering, giving, calling}
 use Rattle.array_memory.specs.Geometry.{rowMatch, matchBytes}
 use Rattle.array_memory.specs.Memory.{Memory, linesLength}
-use Rattle.array_memory.specs.Questions.{cellsQuestions}
+use Rattle.array_questions.specs.Questions.{cellsQuestions}
 
 -- what a lookup asks of the lines and of its k inputs: 6 on their numbers, 8 on each input
 abbrev pub inputArguments : Shape → ℕ → List ℕ → List Question

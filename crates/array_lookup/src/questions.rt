@@ -1,13 +1,13 @@
 // The questions of the lookups.
 use acam::sound::all_below;
-use array_memory::questions::check_cells;
+use array_questions::check_cells;
 use parity::Shape;
 use shape::sizes::Checked;
 ghost use mathlib.Core.Path.{_≡_};
 ghost use Rattle.parity.specs.Questions.{firstNo};
 ghost use Rattle.shape.specs.Lent.{was};
 ghost use Rattle.shape.specs.Shapes.{checkedSays, sizesIf};
-ghost use Rattle.array_memory.specs.Questions.{cellsQuestions};
+ghost use Rattle.array_questions.specs.Questions.{cellsQuestions};
 ghost use Rattle.array_lookup.specs.Lookups.{lookupArguments};
 
 // 1 to 5, 6 on the cells, the match bytes, the lines and the inputs, 8 on the inputs. A call that no buffer for match bytes

@@ -1,4 +1,4 @@
--- Where a row or a block lies, how many rows are flagged, and what it says of a call's arguments that no question on them fails.
+-- Where a row or a block lies, how many rows are flagged, and what it says of the memory that no question on it fails.
 pub mod RowPlaces
 pub mod BlockPlaces
 pub mod FlagCounts

@@ -11,7 +11,7 @@ use Rattle.parity.specs.Shape.{columns}
 use Rattle.parity.specs.Questions.{Taken}
 use Rattle.parity.specs.declared.Shape.{Shape}
 use Rattle.parity.proofs.Taken.{limits}
-use Rattle.acam.proofs.Sizes.{columns-high}
+use Rattle.parity.proofs.Sizes.{columns-high}
 use Rattle.array_memory.specs.Geometry.{rowAt, withRow}
 use Rattle.array_memory.specs.Memory.{cellCount}
 

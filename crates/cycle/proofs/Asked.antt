@@ -10,8 +10,8 @@ use Rattle.parity.specs.Questions.{Question, firstNo, Taken, callQuestions}
 use Rattle.parity.specs.declared.Shape.{Shape}
 use Rattle.shape.proofs.Refusals.{taken-rest}
 use Rattle.array_memory.specs.Memory.{Sized, cellsLength, linesLength, rowsQuestions, memoryQuestions}
-use Rattle.array_memory.specs.Questions.{cellsQuestions, lineArguments, lineQuestions}
-use Rattle.array_memory.proofs.Asked.{cells-rest}
+use Rattle.array_questions.specs.Questions.{cellsQuestions, lineArguments, lineQuestions}
+use Rattle.array_questions.proofs.Asked.{cells-rest}
 use Rattle.cycle.specs.Record.{cycleQuestion}
 use Rattle.cycle.specs.Calls.{State, clearQuestions, startArguments, startQuestions, stepArguments, lentQuestions, stepQuestions}
 

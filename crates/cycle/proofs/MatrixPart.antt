@@ -10,7 +10,7 @@ use Rattle.parity.specs.Matrix.{matrix}
 use Rattle.parity.specs.Questions.{Taken}
 use Rattle.parity.specs.declared.Shape.{Shape}
 use Rattle.acam.specs.Matrices.{matrixArray}
-use Rattle.acam.proofs.Sizes.{columns-high}
+use Rattle.parity.proofs.Sizes.{columns-high}
 use Rattle.acam.proofs.MatrixArray.{array-sized, array-matrix}
 
 -- the part `&array[..count]`

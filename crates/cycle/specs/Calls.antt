@@ -9,7 +9,7 @@ use Rattle.parity.specs.declared.Shape.{Shape}
 use Rattle.shape.specs.Answers.{Result, accepted, giving, calling}
 use Rattle.array_memory.specs.Blocks.{blocks}
 use Rattle.array_memory.specs.Memory.{Memory, withArray, withRows, noMemory, cellCount, rowsQuestions, memoryQuestions}
-use Rattle.array_memory.specs.Questions.{cellsQuestions, programArguments, commitArguments}
+use Rattle.array_questions.specs.Questions.{cellsQuestions, programArguments, commitArguments}
 use Rattle.array.specs.Calls.{rowWritten}
 use Rattle.cycle_lookup.specs.Lookup.{entryMatches, lookedUp}
 use Rattle.cycle.specs.Record.{idle, nextEntry, cycleAt, cycleQuestion}

@@ -20,8 +20,8 @@ use Rattle.shape.specs.Answers.{accepted, refused, giving, calling}
 use Rattle.shape.proofs.Refusals.{first-behind}
 use Rattle.shape.proofs.Calling.{call-done, call-taken, call-keeps}
 use Rattle.array_memory.specs.Memory.{Memory}
-use Rattle.array_memory.specs.Questions.{cellsQuestions, programArguments, askArguments, commitArguments}
-use Rattle.array_memory.proofs.Asked.{Programs, cells-parts, ask-reads, commit-reads}
+use Rattle.array_questions.specs.Questions.{cellsQuestions, programArguments, askArguments, commitArguments}
+use Rattle.array_questions.proofs.Asked.{Programs, cells-parts, ask-reads, commit-reads}
 use Rattle.array.specs.Calls.{rowWritten, askCall}
 use Rattle.cycle.specs.Record.{idle}
 use Rattle.cycle.specs.Calls.{State, stateOf, fresh, programCall, commitCall}

@@ -20,10 +20,11 @@ use Rattle.shape.specs.Answers.{accepted, refused, giving, calling}
 use Rattle.shape.proofs.Calling.{call-done, call-keeps}
 use Rattle.array_memory.specs.Geometry.{withRow}
 use Rattle.array_memory.specs.Memory.{Memory, Sized, withCells, withLines}
-use Rattle.array_memory.specs.Questions.{cellsQuestions, programArguments, commitArguments, driftArguments, lineArguments}
+use Rattle.array_questions.specs.Questions.{cellsQuestions, programArguments, commitArguments, driftArguments, lineArguments}
 use Rattle.array.specs.Calls.{rowWritten, askCall, drifted, driftCall, lineSet, lineCall}
 use Rattle.array_memory.proofs.RowPlaces.{row-cell}
-use Rattle.array_memory.proofs.Asked.{program-reads, commit-reads, Drifts, drift-reads, rows-kept}
+use Rattle.array_memory.proofs.Asked.{rows-kept}
+use Rattle.array_questions.proofs.Asked.{program-reads, commit-reads, Drifts, drift-reads}
 use Rattle.array_lookup.specs.Lookups.{lookupCall}
 use Rattle.cycle_lookup.specs.Lookup.{lookedUp}
 use Rattle.cycle.specs.Record.{idle, isNext}

@@ -9,7 +9,7 @@ use Rattle.parity.specs.Codeword.{encode}
 use Rattle.parity.specs.Questions.{firstNo}
 use Rattle.parity.specs.declared.Shape.{Shape}
 use Rattle.shape.proofs.Calling.{if-either}
-use Rattle.array_memory.specs.Questions.{programArguments, commitArguments, driftArguments, lineArguments}
+use Rattle.array_questions.specs.Questions.{programArguments, commitArguments, driftArguments, lineArguments}
 use Rattle.cycle.specs.Calls.{startArguments, stepArguments}
 use Rattle.cycle.specs.Run.{Call, clear, start, program, ask, commit, drift, line, lookup, step}
 use Rattle.cycle.proofs.Runs.{followed-keeps}

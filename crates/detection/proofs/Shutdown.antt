@@ -29,8 +29,8 @@ use Rattle.detection.specs.Log.{ended, Log, blank, logWritten, logCall, 
 use Rattle.detection.specs.Claims.{stepsWith, Buffers, repair, ShutdownClaim}
 use Rattle.detection.proofs.Elements.{at-set}
 use Rattle.cycle.proofs.Runs.{followed-append, run-append}
-use Rattle.array_memory.specs.Questions.{programArguments}
-use Rattle.array_memory.proofs.Asked.{Programs, program-fits}
+use Rattle.array_questions.specs.Questions.{programArguments}
+use Rattle.array_questions.proofs.Asked.{Programs, program-fits}
 use Rattle.detection.proofs.Still.{stillClaim}
 use Rattle.detection.proofs.Agreement.{Agrees, sized, cells-below, written-row, row-stands}
 use Rattle.detection.proofs.Keeping.{agrees-run}

@@ -10,7 +10,7 @@ use Rattle.parity.specs.Matrix.{cycleSteps}
 use Rattle.parity.specs.Codeword.{encode}
 use Rattle.parity.specs.Questions.{firstNo, ifTaken}
 use Rattle.parity.specs.declared.Shape.{Shape}
-use Rattle.array_memory.specs.Questions.{programArguments, commitArguments, driftArguments, lineArguments}
+use Rattle.array_questions.specs.Questions.{programArguments, commitArguments, driftArguments, lineArguments}
 use Rattle.cycle.specs.Calls.{startArguments, stepArguments}
 use Rattle.cycle.specs.Run.{Call, clear, start, program, ask, commit, drift, line, lookup, step, followed}
 

@@ -13,7 +13,7 @@ use Rattle.parity.proofs.Taken.{limits}
 use Rattle.shape.specs.Answers.{accepted, refused, giving, calling}
 use Rattle.shape.proofs.Calling.{call-done}
 use Rattle.array_memory.specs.Memory.{Memory, withArray, withAll, noMemory, Sized}
-use Rattle.array_memory.specs.Questions.{cellsQuestions, programArguments}
+use Rattle.array_questions.specs.Questions.{cellsQuestions, programArguments}
 use Rattle.array.specs.Calls.{rowWritten}
 use Rattle.cycle_lookup.specs.Lookup.{entryMatches}
 use Rattle.cycle.specs.Record.{idle}

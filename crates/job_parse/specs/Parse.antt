@@ -8,7 +8,7 @@ use Rattle.parity.specs.Lists.{joined}
 use Rattle.parity.specs.Questions.{Question, firstNo, shapeQuestions, levelsQuestion}
 use Rattle.parity.specs.declared.Shape.{Shape}
 use Rattle.array_memory.specs.Memory.{cellCount}
-use Rattle.array_memory.specs.Questions.{driftArguments}
+use Rattle.array_questions.specs.Questions.{driftArguments}
 
 -- ---- fields
 

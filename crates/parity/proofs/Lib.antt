@@ -5,6 +5,7 @@ pub mod Remainders
 pub mod Sums
 pub mod Taken
 pub mod Redundancy
+pub mod Sizes
 pub mod ColumnOrder
 pub mod RuleColumns
 pub mod MatrixFacts

@@ -16,7 +16,7 @@ use Rattle.parity.proofs.Sums.{checkSum}
 use Rattle.parity.proofs.Taken.{limits}
 use Rattle.parity.proofs.Redundancy.{redundancyClaim}
 use Rattle.parity.proofs.MatrixFacts.{rules-sized}
-use Rattle.acam.proofs.Sizes.{columns-high}
+use Rattle.parity.proofs.Sizes.{columns-high}
 use Rattle.acam.proofs.Tail.{tail-is, tail-put}
 use Rattle.acam.proofs.DigitLoop.{power-high, power-next, power-fits, sum-at}
 use Rattle.acam.specs.Digits.{missing}

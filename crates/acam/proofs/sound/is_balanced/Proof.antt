@@ -23,7 +23,7 @@ use Rattle.parity.proofs.MatrixFacts.{matrixClaim}
 use Rattle.parity.proofs.CodewordTest.{codeword-test, codeword-passes}
 use Rattle.acam.specs.Matrices.{matrixArray}
 use Rattle.acam.proofs.DigitLoop.{power-next, power-fits, sum-at}
-use Rattle.acam.proofs.Sizes.{columns-high}
+use Rattle.parity.proofs.Sizes.{columns-high}
 use Rattle.acam.proofs.MatrixArray.{array-sized, array-matrix}
 use Rattle.acam.proofs.sound.is_balanced.Statement.{statement}
 use Rattle.acam.proofs.sound.is_balanced.Tie as tie

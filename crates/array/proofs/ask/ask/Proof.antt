@@ -14,12 +14,12 @@ use Rattle.shape.specs.Answers.{accepted, giving}
 use Rattle.shape.specs.Shapes.{checkedSays, sizesIf}
 use Rattle.shape.proofs.Refusals.{told, Passes, passes, fails, answer-tells}
 use Rattle.shape.proofs.Calling.{call-refused, call-done}
-use Rattle.acam.proofs.Sizes.{columns-high}
+use Rattle.parity.proofs.Sizes.{columns-high}
 use Rattle.array_memory.specs.Memory.{withCells, cellsLength}
-use Rattle.array_memory.specs.Questions.{cellsQuestions, finishedLength, programArguments, askArguments}
+use Rattle.array_questions.specs.Questions.{cellsQuestions, finishedLength, programArguments, askArguments}
 use Rattle.array.specs.Calls.{askCall}
 use Rattle.array_memory.proofs.RowPlaces.{row-part, part-sized}
-use Rattle.array_memory.proofs.Asked.{CellsTaken, cells-parts, cells-then, Programs, ask-reads, cells-bound, row-within}
+use Rattle.array_questions.proofs.Asked.{CellsTaken, cells-parts, cells-then, Programs, ask-reads, cells-bound, row-within}
 use Rattle.array.proofs.ask.ask.Statement.{statement}
 use Rattle.array.proofs.ask.ask.Tie as tie
 

@@ -17,10 +17,10 @@ use Rattle.shape.proofs.Refusals.{told, Passes, passes, fails}
 use Rattle.shape.proofs.Calling.{call-refused, call-done}
 use Rattle.array_memory.specs.Geometry.{rowAt}
 use Rattle.array_memory.specs.Memory.{withCells}
-use Rattle.array_memory.specs.Questions.{cellsQuestions, rowArguments}
+use Rattle.array_questions.specs.Questions.{cellsQuestions, rowArguments}
 use Rattle.array.specs.Calls.{readCall}
 use Rattle.array_memory.proofs.RowPlaces.{rule-part, row-sized}
-use Rattle.array_memory.proofs.Asked.{cells-then, RowTaken, row-taken, cells-bound, row-within}
+use Rattle.array_questions.proofs.Asked.{cells-then, RowTaken, row-taken, cells-bound, row-within}
 use Rattle.array.proofs.cells.read.Statement.{statement}
 use Rattle.array.proofs.cells.read.Tie as tie
 

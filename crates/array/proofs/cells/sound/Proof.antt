@@ -16,10 +16,10 @@ use Rattle.shape.specs.Shapes.{checkedSays, sizesIf}
 use Rattle.shape.proofs.Refusals.{told, Passes, passes, fails}
 use Rattle.shape.proofs.Calling.{if-no}
 use Rattle.array_memory.specs.Geometry.{rowAt}
-use Rattle.array_memory.specs.Questions.{cellsQuestions, rowArguments}
+use Rattle.array_questions.specs.Questions.{cellsQuestions, rowArguments}
 use Rattle.array.specs.Calls.{soundCall}
 use Rattle.array_memory.proofs.RowPlaces.{row-part, part-sized}
-use Rattle.array_memory.proofs.Asked.{cells-then, RowTaken, row-taken, cells-bound, row-within}
+use Rattle.array_questions.proofs.Asked.{cells-then, RowTaken, row-taken, cells-bound, row-within}
 use Rattle.array.proofs.cells.sound.Statement.{statement}
 use Rattle.array.proofs.cells.sound.Tie as tie
 

@@ -10,9 +10,9 @@ use Rattle.shape.specs.Answers.{accepted, giving}
 use Rattle.shape.proofs.Refusals.{told, Passes, passes, fails}
 use Rattle.shape.proofs.Calling.{call-refused, call-done}
 use Rattle.array_memory.specs.Memory.{withCells}
-use Rattle.array_memory.specs.Questions.{cellsQuestions, driftArguments}
+use Rattle.array_questions.specs.Questions.{cellsQuestions, driftArguments}
 use Rattle.array.specs.Calls.{drifted, driftCall}
-use Rattle.array_memory.proofs.Asked.{CellsTaken, cells-parts, Drifts, drift-reads, cells-bound, row-within}
+use Rattle.array_questions.proofs.Asked.{CellsTaken, cells-parts, Drifts, drift-reads, cells-bound, row-within}
 use Rattle.array.proofs.change.drift.Statement.{statement}
 use Rattle.array.proofs.change.drift.Tie as tie
 

@@ -7,9 +7,9 @@ use borrow.Author.Needs.{needs}
 use Rattle.parity.specs.Shape.{columns}
 use Rattle.parity.specs.Questions.{firstNo}
 use Rattle.array_memory.specs.Geometry.{withRow}
-use Rattle.array_memory.specs.Questions.{programArguments}
+use Rattle.array_questions.specs.Questions.{programArguments}
 use Rattle.array_memory.proofs.RowPlaces.{part-sized, row-back}
-use Rattle.array_memory.proofs.Asked.{CellsTaken, cells-parts, Programs, program-reads, cells-bound, row-within}
+use Rattle.array_questions.proofs.Asked.{CellsTaken, cells-parts, Programs, program-reads, cells-bound, row-within}
 use Rattle.array.proofs.change.write_row.Statement.{statement}
 use Rattle.array.proofs.change.write_row.Tie as tie
 

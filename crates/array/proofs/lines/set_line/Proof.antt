@@ -9,9 +9,9 @@ use Rattle.parity.specs.Questions.{Question, firstNo}
 use Rattle.shape.proofs.Refusals.{told, passes, fails}
 use Rattle.shape.proofs.Calling.{call-refused, call-done}
 use Rattle.array_memory.specs.Memory.{withLines}
-use Rattle.array_memory.specs.Questions.{lineQuestions}
+use Rattle.array_questions.specs.Questions.{lineQuestions}
 use Rattle.array.specs.Calls.{lineSet, lineCall}
-use Rattle.array_memory.proofs.Asked.{line-reads, lines-parts}
+use Rattle.array_questions.proofs.Asked.{line-reads, lines-parts}
 use Rattle.array.proofs.lines.set_line.Statement.{statement}
 use Rattle.array.proofs.lines.set_line.Tie as tie
 

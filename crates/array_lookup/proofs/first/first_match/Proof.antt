@@ -15,7 +15,7 @@ use Rattle.shape.proofs.Refusals.{told, Passes, passes, fails}
 use Rattle.shape.proofs.Calling.{if-no}
 use Rattle.shape.proofs.Search.{search-same}
 use Rattle.array_memory.specs.Geometry.{rowMatch}
-use Rattle.array_memory.specs.Questions.{cellsQuestions}
+use Rattle.array_questions.specs.Questions.{cellsQuestions}
 use Rattle.array_lookup.specs.Lookups.{inputArguments, lookupArguments, firstRow, firstCall}
 use Rattle.array_lookup.proofs.RowBytes.{inputs-fit, rows-fit, task-byte}
 use Rattle.array_lookup.proofs.Asked.{LookupTaken, lookup-taken}

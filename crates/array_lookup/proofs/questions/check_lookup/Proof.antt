@@ -7,7 +7,7 @@ use borrow.Author.Needs.{needs}
 use borrow.Author.Tests.{eq-eqb, ne-eqb, not-true, not-false}
 use Rattle.parity.specs.Questions.{Question}
 use Rattle.shape.proofs.Refusals.{told, Passes, passes, then-refused, then-number, then-sizes, levels-tested}
-use Rattle.array_memory.specs.Questions.{cellsQuestions}
+use Rattle.array_questions.specs.Questions.{cellsQuestions}
 use Rattle.array_lookup.specs.Lookups.{lookupArguments}
 use Rattle.array_lookup.proofs.questions.check_lookup.Statement.{statement}
 use Rattle.array_lookup.proofs.questions.check_lookup.Tie as tie

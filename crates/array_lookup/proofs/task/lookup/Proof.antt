@@ -13,7 +13,7 @@ use Rattle.shape.proofs.Refusals.{told, Passes, passes, fails}
 use Rattle.shape.proofs.Calling.{call-refused, call-done}
 use Rattle.array_memory.specs.Geometry.{matchBytes}
 use Rattle.array_memory.specs.Memory.{withArray, noMemory}
-use Rattle.array_memory.specs.Questions.{cellsQuestions}
+use Rattle.array_questions.specs.Questions.{cellsQuestions}
 use Rattle.array_lookup.specs.Lookups.{lookupArguments, taskMatches, taskCount, lookupCall}
 use Rattle.array_lookup.proofs.RowBytes.{byteOf, inputs-fit, rows-fit, task-byte}
 use Rattle.array_lookup.proofs.Asked.{LookupTaken, lookup-taken}

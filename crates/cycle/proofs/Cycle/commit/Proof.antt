@@ -7,8 +7,8 @@ use Rattle.parity.specs.Shape.{columns}
 use Rattle.parity.specs.Questions.{Question, firstNo}
 use Rattle.shape.proofs.Refusals.{told, fails, Passes, passes}
 use Rattle.array_memory.specs.Memory.{withCells}
-use Rattle.array_memory.specs.Questions.{cellsQuestions, commitArguments}
-use Rattle.array_memory.proofs.Asked.{CellsTaken, cells-parts, Commits, commit-reads, row-within}
+use Rattle.array_questions.specs.Questions.{cellsQuestions, commitArguments}
+use Rattle.array_questions.proofs.Asked.{CellsTaken, cells-parts, Commits, commit-reads, row-within}
 use Rattle.array_memory.specs.Geometry.{withRow}
 use Rattle.array.specs.Calls.{rowWritten}
 use Rattle.cycle.specs.Record.{idle}

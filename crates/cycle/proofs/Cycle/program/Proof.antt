@@ -7,8 +7,8 @@ use Rattle.parity.specs.Questions.{Question, firstNo}
 use Rattle.shape.specs.Shapes.{checkedSays, sizesIf}
 use Rattle.shape.proofs.Refusals.{told, fails, Passes, passes, answer-tells}
 use Rattle.array_memory.specs.Memory.{withCells, cellsLength}
-use Rattle.array_memory.specs.Questions.{cellsQuestions, programArguments}
-use Rattle.array_memory.proofs.Asked.{cells-then}
+use Rattle.array_questions.specs.Questions.{cellsQuestions, programArguments}
+use Rattle.array_questions.proofs.Asked.{cells-then}
 use Rattle.array.specs.Calls.{rowWritten}
 use Rattle.cycle.specs.Record.{idle}
 use Rattle.cycle.specs.Calls.{programCall}

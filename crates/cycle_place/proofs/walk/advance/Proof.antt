@@ -12,7 +12,7 @@ use Rattle.parity.specs.declared.Shape.{Shape}
 use Rattle.parity.proofs.Taken.{limits}
 use Rattle.parity.proofs.Redundancy.{redundancyClaim}
 use Rattle.parity.proofs.MatrixFacts.{matrixClaim}
-use Rattle.acam.proofs.Sizes.{columns-high}
+use Rattle.parity.proofs.Sizes.{columns-high}
 use Rattle.schedule.specs.Index.{span, supportSize, rank}
 use Rattle.cycle_place.specs.Places.{placeAt, nextAt}
 use Rattle.cycle_place.specs.Walk.{Stands, indexOf}

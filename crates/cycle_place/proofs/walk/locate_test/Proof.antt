@@ -22,7 +22,7 @@ use Rattle.parity.proofs.Taken.{limits}
 use Rattle.parity.proofs.Longest.{lookups-high}
 use Rattle.parity.proofs.Redundancy.{redundancyClaim}
 use Rattle.parity.proofs.MatrixFacts.{matrixClaim}
-use Rattle.acam.proofs.Sizes.{columns-high}
+use Rattle.parity.proofs.Sizes.{columns-high}
 use Rattle.schedule.specs.Index.{supportSize, rank, span, placeIndex}
 use Rattle.cycle_place.specs.Places.{isPlaceOf}
 use Rattle.cycle_place.specs.Survey.{surveyOf}

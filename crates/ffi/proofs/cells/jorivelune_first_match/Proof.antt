@@ -11,7 +11,7 @@ use Rattle.parity.specs.declared.Shape.{Shape}
 use Rattle.shape.specs.Answers.{none, firstSays}
 use Rattle.array_memory.specs.Geometry.{rowMatch}
 use Rattle.array_memory.specs.Memory.{Memory}
-use Rattle.array_memory.specs.Questions.{cellsQuestions}
+use Rattle.array_questions.specs.Questions.{cellsQuestions}
 use Rattle.array_lookup.specs.Lookups.{inputArguments, firstRow, firstCall}
 use Rattle.ffi.specs.Numbers.{foundSays}
 use Rattle.ffi.proofs.Numbers.{Told, answering-told, tells}

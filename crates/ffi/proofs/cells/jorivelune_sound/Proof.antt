@@ -12,7 +12,7 @@ use Rattle.parity.specs.declared.Shape.{Shape}
 use Rattle.shape.specs.Answers.{verdictSays}
 use Rattle.array_memory.specs.Geometry.{rowAt}
 use Rattle.array_memory.specs.Memory.{Memory}
-use Rattle.array_memory.specs.Questions.{cellsQuestions}
+use Rattle.array_questions.specs.Questions.{cellsQuestions}
 use Rattle.array.specs.Calls.{soundCall}
 use Rattle.ffi.proofs.Numbers.{Told, answering-told, tells}
 use Rattle.ffi.proofs.cells.jorivelune_sound.Statement.{statement}

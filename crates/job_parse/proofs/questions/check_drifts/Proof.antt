@@ -11,7 +11,7 @@ use Rattle.parity.specs.Lists.{joined}
 use Rattle.parity.specs.Shape.{levels, columns}
 use Rattle.parity.specs.Questions.{Question, firstNo}
 use Rattle.parity.specs.declared.Shape.{Shape}
-use Rattle.array_memory.specs.Questions.{driftArguments}
+use Rattle.array_questions.specs.Questions.{driftArguments}
 use Rattle.job_parse.specs.Parse.{byteAt, twoAt, jobShape, levelCount, driftCount, driftStart, driftRow, driftColumn, driftLevel, driftQuestions}
 use Rattle.job_parse.proofs.Joined.{joined-stops, joined-passes}
 use Rattle.job_parse.proofs.Sizes.{levels-fit}

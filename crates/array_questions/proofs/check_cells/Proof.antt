@@ -1,4 +1,4 @@
--- `array_memory::questions::check_cells` meets its contract: questions 1 to 5 by `check_shape`, and then 6. Assumes nothing.
+-- `array_questions::check_cells` meets its contract: questions 1 to 5 by `check_shape`, and then 6. Assumes nothing.
 use mathlib.Core.Path.{_≡_, refl, ap}
 use mathlib.Core.List.{List, [], _∷_}
 use Prim.Native.Nat.{_*_}
@@ -7,10 +7,10 @@ use borrow.Author.Needs.{needs}
 use borrow.Author.Tests.{eq-eqb, ne-eqb}
 use Rattle.parity.specs.Questions.{Question, shapeQuestions, shapeRefusal}
 use Rattle.shape.proofs.Refusals.{told, Passes, passes, then-refused, then-number, then-sizes}
 use Rattle.array_memory.specs.Memory.{cellCount, cellsLength}
 use Rattle.array_memory.proofs.RowPlaces.{cells-high}
-use Rattle.array_memory.proofs.questions.check_cells.Statement.{statement}
-use Rattle.array_memory.proofs.questions.check_cells.Tie as tie
+use Rattle.array_questions.proofs.check_cells.Statement.{statement}
+use Rattle.array_questions.proofs.check_cells.Tie as tie
 
 -- what is asked here
 abbrev more : tie.Start → List Question

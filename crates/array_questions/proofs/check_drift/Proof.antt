@@ -1,4 +1,4 @@
--- `array_memory::questions::check_drift` meets its contract: what `check_cells` asks, then 7 on row and column, then 8. Assumes nothing.
+-- `array_questions::check_drift` meets its contract: what `check_cells` asks, then 7 on row and column, then 8. Assumes nothing.
 use mathlib.Core.Path.{refl, ap}
 use mathlib.Core.List.{[]}
 use native.Mathlib.Omega.{arith}
@@ -6,9 +6,9 @@ use borrow.Author.Needs.{needs}
 use borrow.Author.Tests.{lt-ltb, le-ltb}
 use Rattle.parity.specs.Shape.{levels, columns}
 use Rattle.shape.proofs.Refusals.{told, Passes, passes, then-refused, then-number, then-sizes}
-use Rattle.array_memory.specs.Questions.{cellsQuestions, driftArguments}
-use Rattle.array_memory.proofs.questions.check_drift.Statement.{statement}
-use Rattle.array_memory.proofs.questions.check_drift.Tie as tie
+use Rattle.array_questions.specs.Questions.{cellsQuestions, driftArguments}
+use Rattle.array_questions.proofs.check_drift.Statement.{statement}
+use Rattle.array_questions.proofs.check_drift.Tie as tie
 
 -- the places of the call and of the sizes, each from one that follows
 abbrev begun : tie.After-sizes → tie.Start

@@ -1,4 +1,4 @@
--- `array_memory::questions::check_commit` meets its contract: what `check_finished` and `check_row` ask, then 8, then 17. Assumes nothing.
+-- `array_questions::check_commit` meets its contract: what `check_finished` and `check_row` ask, then 8, then 17. Assumes nothing.
 use mathlib.Core.Path.{_≡_, refl, sym, ap, _∙_}
 use mathlib.Core.List.{List, [], _∷_, _++_}
 use lib.Dec.{eqb, ltb, lit<}
@@ -11,10 +11,10 @@ use Rattle.parity.specs.Questions.{Question, firstNo, placeQuestion, levelsQues
 use Rattle.parity.proofs.Taken.{first-yes}
 use Rattle.shape.specs.Shapes.{checkedSays, sizesIf}
 use Rattle.shape.proofs.Refusals.{told, Passes, passes, then-refused, then-number, then-sizes, levels-tested}
-use Rattle.array_memory.specs.Questions.{cellsQuestions, finishedLength, rowArguments, commitArguments}
-use Rattle.array_memory.proofs.Asked.{CellsTaken, cells-parts, cells-then}
-use Rattle.array_memory.proofs.questions.check_commit.Statement.{statement}
-use Rattle.array_memory.proofs.questions.check_commit.Tie as tie
+use Rattle.array_questions.specs.Questions.{cellsQuestions, finishedLength, rowArguments, commitArguments}
+use Rattle.array_questions.proofs.Asked.{CellsTaken, cells-parts, cells-then}
+use Rattle.array_questions.proofs.check_commit.Statement.{statement}
+use Rattle.array_questions.proofs.check_commit.Tie as tie
 
 -- what was asked before, and what is asked here
 abbrev first : tie.Start → List Question

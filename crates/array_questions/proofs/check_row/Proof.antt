@@ -1,13 +1,13 @@
--- `array_memory::questions::check_row` meets its contract: behind the sizes it asks 6 on the bytes that come with the call, then 7. Assumes nothing.
+-- `array_questions::check_row` meets its contract: behind the sizes it asks 6 on the bytes that come with the call, then 7. Assumes nothing.
 use mathlib.Core.Path.{refl}
 use mathlib.Core.List.{List}
 use borrow.Author.Needs.{needs}
 use borrow.Author.Tests.{eq-eqb, ne-eqb, lt-ltb, le-ltb}
 use Rattle.parity.specs.Questions.{Question}
 use Rattle.shape.proofs.Refusals.{behind-refusal, behind-number, behind-sizes}
-use Rattle.array_memory.specs.Questions.{rowArguments}
-use Rattle.array_memory.proofs.questions.check_row.Statement.{statement}
-use Rattle.array_memory.proofs.questions.check_row.Tie as tie
+use Rattle.array_questions.specs.Questions.{rowArguments}
+use Rattle.array_questions.proofs.check_row.Statement.{statement}
+use Rattle.array_questions.proofs.check_row.Tie as tie
 
 abbrev more : tie.Start → List Question
 more c = rowArguments (c .args .shape) (c .args .part) (c .args .row)

@@ -1,4 +1,4 @@
--- `array_memory::questions::check_program` meets its contract: what `check_row` asks, then 8. Assumes nothing.
+-- `array_questions::check_program` meets its contract: what `check_row` asks, then 8. Assumes nothing.
 use mathlib.Core.Path.{_≡_, refl, ap, subst, _∙_}
 use mathlib.Core.List.{List, [], _∷_, _++_}
 use lib.ListN.{length}
@@ -8,9 +8,9 @@ use Rattle.parity.specs.Shape.{levels}
 use Rattle.parity.specs.Questions.{Question, levelsQuestion}
 use Rattle.shape.specs.Shapes.{thenSays, TellsOf}
 use Rattle.shape.proofs.Refusals.{behind-refusal, behind-number, behind-sizes, behind-both, behind-tells, levels-tested}
-use Rattle.array_memory.specs.Questions.{rowArguments}
-use Rattle.array_memory.proofs.questions.check_program.Statement.{statement}
-use Rattle.array_memory.proofs.questions.check_program.Tie as tie
+use Rattle.array_questions.specs.Questions.{rowArguments}
+use Rattle.array_questions.proofs.check_program.Statement.{statement}
+use Rattle.array_questions.proofs.check_program.Tie as tie
 
 -- what is asked before, and what is asked here
 abbrev first : tie.Start → List Question

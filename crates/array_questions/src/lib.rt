@@ -12,8 +12,8 @@ ghost use lib.ListN.{length};
 ghost use Rattle.parity.specs.Questions.{firstNo};
 ghost use Rattle.shape.specs.Lent.{was};
 ghost use Rattle.shape.specs.Shapes.{checkedSays, sizesIf, thenSays, TellsOf};
-ghost use Rattle.array_memory.specs.Questions.{cellsQuestions, finishedLength, rowArguments, programArguments, commitArguments};
-ghost use Rattle.array_memory.specs.Questions.{driftArguments, lineQuestions};
+ghost use Rattle.array_questions.specs.Questions.{cellsQuestions, finishedLength, rowArguments, programArguments, commitArguments};
+ghost use Rattle.array_questions.specs.Questions.{driftArguments, lineQuestions};
 
 // 1 to 5, and 6 on the cells.
 pub fn check_cells(shape: Shape, cells: usize) -> Checked

@@ -1,4 +1,4 @@
--- `array_memory::questions::check_finished` meets its contract: what `check_cells` asks, then 6 on the finished row. Assumes nothing.
+-- `array_questions::check_finished` meets its contract: what `check_cells` asks, then 6 on the finished row. Assumes nothing.
 use mathlib.Core.Path.{refl, sym, ap, _∙_}
 use mathlib.Core.List.{List, [], _∷_}
 use borrow.Author.Needs.{needs}
@@ -6,9 +6,9 @@ use borrow.Author.Tests.{eq-eqb, ne-eqb}
 use Rattle.parity.specs.Shape.{columns}
 use Rattle.parity.specs.Questions.{Question}
 use Rattle.shape.proofs.Refusals.{told, Passes, passes, then-refused, then-number, then-sizes}
-use Rattle.array_memory.specs.Questions.{cellsQuestions, finishedLength}
-use Rattle.array_memory.proofs.questions.check_finished.Statement.{statement}
-use Rattle.array_memory.proofs.questions.check_finished.Tie as tie
+use Rattle.array_questions.specs.Questions.{cellsQuestions, finishedLength}
+use Rattle.array_questions.proofs.check_finished.Statement.{statement}
+use Rattle.array_questions.proofs.check_finished.Tie as tie
 
 -- what was asked before, and what is asked here
 abbrev first : tie.Start → List Question

@@ -1,4 +1,4 @@
--- `array_memory::questions::check_line` meets its contract: questions 1 to 5 by `check_shape`, then 6 on the lines, 7 on the row and 16 on the byte.
+-- `array_questions::check_line` meets its contract: questions 1 to 5 by `check_shape`, then 6 on the lines, 7 on the row and 16 on the byte.
 -- Assumes nothing.
 use mathlib.Core.Path.{refl}
 use mathlib.Core.List.{List, _∷_}
@@ -6,10 +6,10 @@ use borrow.Author.Needs.{needs}
 use borrow.Author.Tests.{eq-eqb, ne-eqb, le-leb, lt-leb, lt-ltb, le-ltb}
 use Rattle.parity.specs.Questions.{Question, shapeQuestions, shapeRefusal}
 use Rattle.shape.proofs.Refusals.{told, Passes, passes, then-refused, then-number, then-sizes}
 use Rattle.array_memory.specs.Memory.{linesLength}
-use Rattle.array_memory.specs.Questions.{lineArguments}
-use Rattle.array_memory.proofs.questions.check_line.Statement.{statement}
-use Rattle.array_memory.proofs.questions.check_line.Tie as tie
+use Rattle.array_questions.specs.Questions.{lineArguments}
+use Rattle.array_questions.proofs.check_line.Statement.{statement}
+use Rattle.array_questions.proofs.check_line.Tie as tie
 
 -- what is asked here
 abbrev more : tie.Start → List Question

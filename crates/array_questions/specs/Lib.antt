@@ -1,0 +1,2 @@
+-- What a reader has to believe of the questions of the calls on cells and lines.
+pub mod Questions
