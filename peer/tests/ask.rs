@@ -2,17 +2,18 @@
 //! the rows that a commit takes, and that a commit of what an ask wrote is one
 //! programming in its place.
 
-use peer::testing::arrays::{any_array, Make, BOTH};
+use peer::testing::arrays::{any_array, started_array, Make, BOTH};
 use peer::testing::asks::{example, Example};
 use peer::testing::lists::list;
 use peer::testing::log::{Log, LoggedCycle};
+use peer::testing::naive::calls::IDLE;
 use peer::testing::naive::spec::{questions, Spec};
 use peer::testing::random::Random;
 use peer::testing::rows::{all_rows, any_row, damage, sound_row};
 use peer::testing::settings;
 use peer::testing::shapes::{any_good_shape, asked, short_coarse_shape, small_shape};
 use peer::testing::verdict::assert_flag;
-use peer::{Answer, Array, Call, Cycle, Phase, Shape};
+use peer::{Answer, Array, Call, Phase, Shape};
 
 /// Three binary digits and two rows of three levels and a check cell.
 const GOOD: Shape = Shape::new(2, 3, 1, 3, 2);
@@ -272,10 +273,7 @@ fn asks_and_refused_commits_leave_an_open_cycle() {
     for make in BOTH.repeat(30) {
         let shape = small_shape(&mut random);
         let layout = shape.layout().unwrap();
-        let mut left = Array::fresh(shape).unwrap();
-        left.state.cells = random.levels(layout.levels(), layout.cells());
-        let skip = random.below(shape.digits);
-        assert_eq!(left.start(skip), Answer::Done);
+        let (mut left, skip) = started_array(&mut random, shape);
         let mut asking = left.clone();
         let mut matches = vec![7; shape.rows];
         for _ in 0..layout.steps(skip) {
@@ -317,15 +315,7 @@ fn check_commit(make: Make, spec: &Spec, before: &Array, row: usize, finished: &
     if spec.is_sound(finished) {
         assert_eq!(number, 0, "{finished:?}");
         put_row(&mut wanted, row, finished);
-        wanted.cycle = Cycle {
-            phase: Phase::Idle,
-            check: 0,
-            digit: 0,
-            column: 0,
-            factor: 0,
-            count: 0,
-            skip: 0,
-        };
+        wanted.cycle = IDLE;
         let mut programmed = before.clone();
         let levels = &finished[..spec.shape.width];
         let answer = make(&mut programmed, &mut program(row, levels));

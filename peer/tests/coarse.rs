@@ -1,7 +1,7 @@
 //! Cycles that skip low digits: the example, question 15 and its place among
 //! the others, starts that it refuses, and the vectors that are left.
 
-use peer::testing::arrays::{Make, BOTH};
+use peer::testing::arrays::{started_array, Make, BOTH};
 use peer::testing::lent::Own;
 use peer::testing::naive::spec::questions;
 use peer::testing::settings;
@@ -164,10 +164,7 @@ fn a_refused_start_leaves_an_open_cycle() {
     for _ in 0..100 {
         let shape = small_shape(&mut random);
         let layout = shape.layout().unwrap();
-        let mut left = Array::fresh(shape).unwrap();
-        left.state.cells = random.levels(layout.levels(), layout.cells());
-        let skip = random.below(shape.digits);
-        assert_eq!(left.start(skip), Answer::Done);
+        let (mut left, skip) = started_array(&mut random, shape);
         let mut asked = left.clone();
         let mut matches = vec![7; shape.rows];
         for _ in 0..layout.steps(skip) {

@@ -39,3 +39,18 @@ pub fn any_array(random: &mut Random, shape: Shape) -> Array {
         cycle: schedule.record(count),
     }
 }
+
+/// An array of a good shape with any levels in it, whose cycle has just begun, and
+/// the digits that this skips.
+///
+/// # Panics
+///
+/// If the shape is not good.
+pub fn started_array(random: &mut Random, shape: Shape) -> (Array, usize) {
+    let layout = layout(shape);
+    let mut array = Array::fresh(shape).expect("a good shape");
+    array.state.cells = random.levels(layout.levels(), layout.cells());
+    let skip = random.below(shape.digits);
+    assert_eq!(array.start(skip), Answer::Done);
+    (array, skip)
+}

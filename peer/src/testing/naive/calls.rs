@@ -10,7 +10,7 @@ use crate::list::Array;
 
 /// The idle record, written out anew: the definitions share the types of the
 /// build that they judge, and none of its values.
-const IDLE: Cycle = Cycle {
+pub const IDLE: Cycle = Cycle {
     phase: Phase::Idle,
     check: 0,
     digit: 0,
