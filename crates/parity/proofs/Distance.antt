@@ -10,7 +10,7 @@ use Rattle.parity.specs.Lists.{differences}
 use Rattle.parity.specs.Shape.{digit, levels, checks, columns}
 use Rattle.parity.specs.Matrix.{matrix, support}
 use Rattle.parity.specs.Codeword.{Codeword}
-use Rattle.parity.specs.Claims.{MatrixClaim, DistanceClaim}
+use Rattle.parity.specs.Claims.{RightMatrix, DistanceClaim}
 use Rattle.parity.specs.declared.Shape.{Shape}
 use Rattle.parity.proofs.Remainders.{Same, same-eq, same-sym, same-trans, same-minus, same-zero}
 use Rattle.parity.proofs.Digits.{digit-below, digits-equal}
@@ -20,7 +20,7 @@ use Rattle.parity.proofs.MatrixFacts.{matrixClaim}
 use Rattle.parity.proofs.Changes.{changes}
 use Rattle.parity.proofs.Detection.{Column, unchanged}
 
-module _ (s : Shape) (m : MatrixClaim s) where
+module _ (s : Shape) (m : RightMatrix s) where
   -- a codeword's check sums are 0 mod ρ
   check-zero :
       {row : List ℕ} → Codeword s row → (ℓ d : ℕ) → ℓ < checks s → d < s .digits

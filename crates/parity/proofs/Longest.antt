@@ -13,7 +13,7 @@ use Rattle.parity.specs.Lists.{keep, sumOver, everyTo}
 use Rattle.parity.specs.Shape.{digit, levels, largest, limit, redundancy, checks, columns}
 use Rattle.parity.specs.Matrix.{weight, ofWeight, columnOrder, eligible, ruleColumns, checkColumns, matrix, matrixOnes, lookups}
 use Rattle.parity.specs.Questions.{shapeRefusal, Taken}
-use Rattle.parity.specs.Claims.{longestShape, LongestClaim}
+use Rattle.parity.specs.Claims.{longestShape, mostLookups, LongestClaim}
 use Rattle.parity.specs.declared.Shape.{Shape}
 use Rattle.parity.proofs.ListLaws.{sum-append, Each, each-tabulate, grid-at}
 use Rattle.parity.proofs.Taken.{limits, errors-split}
@@ -74,7 +74,7 @@ matrixOnes-high s t =
     ))
     (errors-split s t))
 
-pub lookups-high : (z : ℕ) (s : Shape) → Taken s → lookups z s ≤ 261120
+pub lookups-high : (z : ℕ) (s : Shape) → Taken s → lookups z s ≤ mostLookups
 unfolding lookups
 lookups-high z s t =
     mul-le-mul {n₂ = 255} {m₂ = 1024} (omega (arith, limits s t .levelsHigh, div-le-self (levels s) (s .radix ^ z))) (matrixOnes-high s t)
@@ -90,7 +90,7 @@ longest-ones : sumOver (matrix longestShape) weight ≡ 1024
 unfolding matrix ruleColumns checkColumns columnOrder ofWeight weight eligible digit checks redundancy largest
 longest-ones = refl
 
-longest-lookups : lookups 0 longestShape ≡ 261120
+longest-lookups : lookups 0 longestShape ≡ mostLookups
 unfolding lookups levels
 longest-lookups = ap (λ w. 255 * w) (matrixOnes-weights longestShape longest-taken ∙ longest-ones)
 

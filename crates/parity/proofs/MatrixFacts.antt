@@ -13,7 +13,7 @@ use borrow.Author.Tests.{eqb-true}
 use Rattle.parity.specs.Lists.{everyTo}
 use Rattle.parity.specs.Shape.{digit, checks, columns}
 use Rattle.parity.specs.Matrix.{weight, eligible, ruleColumns, checkColumns, matrix}
-use Rattle.parity.specs.Claims.{Precedes, MatrixClaim}
+use Rattle.parity.specs.Claims.{Precedes, RightMatrix, MatrixClaim}
 use Rattle.parity.specs.Questions.{Taken}
 use Rattle.parity.specs.declared.Shape.{Shape}
 use Rattle.parity.proofs.Taken.{errors-split}
@@ -90,8 +90,8 @@ module _ (s : Shape) (t : Taken s) where
       each-tabulate (λ d. c ≢ d) (checks s) (λ ℓ. 2 ^ ℓ)
       (λ ℓ l e. omega (arith, ap weight e, power-weight ℓ (omega (arith, redundancyClaim s t .high)))))
 
-  pub matrixClaim : MatrixClaim s
-  matrixClaim =
+  right-matrix : RightMatrix s
+  right-matrix =
       let claim = redundancyClaim s t in
       record {
         sized = matrix-sized;
@@ -108,3 +108,6 @@ module _ (s : Shape) (t : Taken s) where
             (λ c. ⊎-elim (λ o. absurd (omega arith)) (λ k. eligible-odd (checks s) c (cc)))
             (λ ℓ h. ap (λ w. w % 2) (power-weight ℓ (omega arith)));
       }
+
+pub matrixClaim : MatrixClaim
+matrixClaim = right-matrix

@@ -65,7 +65,7 @@ first-checks s t =
     let fits = most-fits (s .errors) in
     first-from _ 8 1 (most (s .errors)) (fits .0) (omega arith) (le-leb _ _ (limits s t .widthHigh))
 
-pub redundancyClaim : (s : Shape) → Taken s → RedundancyClaim s
+pub redundancyClaim : RedundancyClaim
 redundancyClaim s t =
     let f = first-checks s t in
     let fits = most-fits (s .errors) in

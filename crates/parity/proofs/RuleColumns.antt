@@ -57,7 +57,7 @@ pub eligible-odd : (r c : ℕ) → eligible 3 r c ≡ true → weight c % 2 ≡ 
 unfolding eligible
 eligible-odd r c e = eqb-true _ _ (and-eq-true-iff (leb 3 (weight c)) _ .0 (and-eq-true-iff (ltb c (2 ^ r)) _ .0 e .1) .1)
 
-pub ruleColumnsClaim : (s : Shape) → Taken s → 2 ≤ s .errors → RuleColumnsClaim s
+pub ruleColumnsClaim : RuleColumnsClaim
 ruleColumnsClaim s t h =
     let τ = s .errors in
     let r = checks s in

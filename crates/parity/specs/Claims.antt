@@ -3,7 +3,7 @@ use mathlib.Core.Path.{_≡_}
 use mathlib.Core.Logic.{_↔_, _≢_, _⊎_}
 use mathlib.Core.Bool.{true}
 use mathlib.Core.List.{List, _++_}
-use Prim.Native.Nat.{ℕ, _%_, _^_, _≤_, _<_}
+use Prim.Native.Nat.{ℕ, suc, _%_, _^_, _≤_, _<_}
 use lib.ListN.{length, getD, take}
 use Rattle.parity.specs.Lists.{differences}
 use Rattle.parity.specs.Shape.{levels, largest, checks, columns}
@@ -57,9 +57,9 @@ pub record OrderClaim : Type 0 where
   pub complete : (c : ℕ) → 0 < c → c < 256 → Among c columnOrder
   pub ordered : Ordered columnOrder
 
--- The rule columns of a shape for τ = 2 and 3: k of them, of the right kind and below 2^r, in the document's order, and no eligible column
--- that is left out comes before one that is taken.
-pub record RuleColumnsClaim (s : Shape) : Type 0 where
+-- the rule columns of a shape: k of them, of the right kind and below 2^r, in the document's order, and no eligible column that is left out comes
+-- before one that is taken
+pub record RightRules (s : Shape) : Type 0 where
   pub sized : length (ruleColumns (s .errors) (checks s) (s .width)) ≡ s .width
   pub kind : (i : ℕ) → i < s .width → eligible (s .errors) (checks s) (getD (ruleColumns (s .errors) (checks s) (s .width)) i 0) ≡ true
   pub ordered : Ordered (ruleColumns (s .errors) (checks s) (s .width))
@@ -68,8 +68,13 @@ pub record RuleColumnsClaim (s : Shape) : Type 0 where
       → Among c (ruleColumns (s .errors) (checks s) (s .width))
       ⊎ ((i : ℕ) → i < s .width → Precedes (getD (ruleColumns (s .errors) (checks s) (s .width)) i 0) c)
 
--- The check matrix of a shape taken, rule columns and check columns together.
-pub record MatrixClaim (s : Shape) : Type 0 where
+-- Of every shape taken, where τ is 2 or 3.
+abbrev pub RuleColumnsClaim : Type 0
+RuleColumnsClaim = (s : Shape) → Taken s → 2 ≤ s .errors → RightRules s
+
+-- the check matrix of a shape, rule columns and check columns together: n columns, none 0, below 2^r; for τ = 1 all 1, else no two equal, and for
+-- τ = 3 each with an odd count of ones
+pub record RightMatrix (s : Shape) : Type 0 where
   pub sized : length (matrix s) ≡ columns s
   pub nonzero : (j : ℕ) → j < columns s → 0 < getD (matrix s) j 0
   pub inChecks : (j : ℕ) → j < columns s → getD (matrix s) j 0 < 2 ^ checks s
@@ -77,20 +82,34 @@ pub record MatrixClaim (s : Shape) : Type 0 where
   pub distinct : 2 ≤ s .errors → (i j : ℕ) → i < j → j < columns s → getD (matrix s) i 0 ≢ getD (matrix s) j 0
   pub odd : s .errors ≡ 3 → (j : ℕ) → j < columns s → weight (getD (matrix s) j 0) % 2 ≡ 1
 
--- r is from 1 to 8, carries k, and no smaller number from 1 on does.
-pub record RedundancyClaim (s : Shape) : Type 0 where
+-- Of every shape taken.
+abbrev pub MatrixClaim : Type 0
+MatrixClaim = (s : Shape) → Taken s → RightMatrix s
+
+-- r is from 1 to 8, carries k, and no smaller number from 1 on does
+pub record LeastChecks (s : Shape) : Type 0 where
   pub low : 1 ≤ checks s
   pub high : checks s ≤ 8
   pub carries : s .width ≤ largest (s .errors) (checks s)
   pub least : (r : ℕ) → 1 ≤ r → r < checks s → largest (s .errors) r < s .width
 
+-- Of every shape taken.
+abbrev pub RedundancyClaim : Type 0
+RedundancyClaim = (s : Shape) → Taken s → LeastChecks s
+
 -- the largest shape: 256 levels, and the 247 rule columns that 8 check columns carry for τ = 2
 abbrev pub longestShape : Shape
 longestShape = record { radix = 2; digits = 8; errors = 2; width = 247; rows = 1 }
 
--- The longest cycle: on no shape taken has a cycle more than 261,120 lookups, 255 for each of 1,024 ones, and the largest has as many where
--- no digit is skipped.
+-- the lookups of the longest cycle, 255 for each of 1,024 ones, and its steps with the opening
+abbrev pub mostLookups : ℕ
+mostLookups = 261120
+
+abbrev pub mostSteps : ℕ
+mostSteps = suc mostLookups
+
+-- The longest cycle: on no shape taken has a cycle more lookups, and the largest has as many where no digit is skipped.
 pub record LongestClaim : Type 0 where
-  pub most : (z : ℕ) (s : Shape) → Taken s → lookups z s ≤ 261120
+  pub most : (z : ℕ) (s : Shape) → Taken s → lookups z s ≤ mostLookups
   pub taken : Taken longestShape
-  pub reached : lookups 0 longestShape ≡ 261120
+  pub reached : lookups 0 longestShape ≡ mostLookups

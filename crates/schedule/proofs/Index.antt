@@ -148,5 +148,5 @@ module _ (z : ℕ) (s : Shape) (t : Taken s) where
       ap (λ n. length (joined n (digitLists z s ℓ))) (comp-comp within) in
       (ℓ, d, j, a, place, omega (arith, index-parts ℓ d j a lt, ap (λ x. x * w) e₃, div-add-mod' c₂ w))
 
-pub indexClaim : (z : ℕ) (s : Shape) → Taken s → IndexClaim z s
+pub indexClaim : IndexClaim
 indexClaim z s t = record { stands = place-stands z s t; found = index-found z s t }

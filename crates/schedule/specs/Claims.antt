@@ -52,10 +52,14 @@ CapClaim =
     (z : ℕ) (s : Shape) → Taken s → (line : ℕ) (row : List ℕ) → length row ≡ columns s
     → tallyRun s line row (schedule z s) freshTally ≡ tallyRun s line (map (λ v. min v (levels s - 1)) row) (schedule z s) freshTally
 
--- Every place stands at its index among the tests, and every test is that of a place.
-pub record IndexClaim (z : ℕ) (s : Shape) : Type 0 where
+-- every place stands at its index among the tests, and every test is that of a place
+pub record Indexed (z : ℕ) (s : Shape) : Type 0 where
   pub stands :
       (ℓ d j a : ℕ) → IsPlace z s ℓ d j a
       → (placeIndex z s ℓ d j a < length (tests z s)) × ((e : Entry) → getD (tests z s) (placeIndex z s ℓ d j a) e ≡ entryOf z s ℓ d j a)
   pub found :
       (c : ℕ) → c < length (tests z s) → (ℓ : ℕ) × (d : ℕ) × (j : ℕ) × (a : ℕ) × IsPlace z s ℓ d j a × (placeIndex z s ℓ d j a ≡ c)
+
+-- For every shape taken and every z.
+abbrev pub IndexClaim : Type 0
+IndexClaim = (z : ℕ) (s : Shape) → Taken s → Indexed z s
