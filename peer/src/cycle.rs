@@ -2,7 +2,7 @@
 //!
 //! A cycle opens with the all-zero vector. Every cell answers 1 to it, so the
 //! rows that do not match are those with a dead line: they are flagged, and
-//! nothing is counted. The vectors behind it cannot show such a row, since its
+//! nothing is counted. The vectors after it cannot show such a row, since its
 //! counter stays 0.
 //!
 //! Schedule of these: checks ℓ upwards; within it digits s from the highest down

@@ -43,7 +43,7 @@ const fn order() -> [u8; 255] {
 }
 
 /// The rule columns for each number of changed cells and of check columns, as
-/// many as fit; the places behind them hold 0 and are never used.
+/// many as fit; the places after them hold 0 and are never used.
 static RULE_COLUMNS: [[[u8; MAX_WIDTH]; MAX_CHECKS]; Shape::MAX_ERRORS] = all_rule_columns();
 
 const fn all_rule_columns() -> [[[u8; MAX_WIDTH]; MAX_CHECKS]; Shape::MAX_ERRORS] {

@@ -472,7 +472,7 @@ struct Between {
     changed: usize,
 }
 
-/// Any calls, and half the time the beginning of a cycle behind them.
+/// Any calls, and half the time the beginning of a cycle after them.
 fn some_calls(random: &mut Random, shape: Shape) -> Vec<Call<Vec<u8>>> {
     let pieces = random.below(5);
     let mut calls = list(random, shape, pieces);
@@ -498,7 +498,7 @@ fn written_in_log(before: &Log, row: usize, cells: &[u8]) -> Log {
     log
 }
 
-/// A list with an ask in it and behind it the commit of what it wrote, with any
+/// A list with an ask in it and after it the commit of what it wrote, with any
 /// calls before, between and after; and the same list without the ask and with a
 /// programming in the place of the commit. Both have the same state, the same log
 /// and the same answers, and cycles flag the same rows.

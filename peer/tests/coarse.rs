@@ -97,7 +97,7 @@ fn sound_is_asked_of_all_digits() {
 }
 
 /// How many buffers there are: those of the state, cells and lines first, and
-/// behind them the match bytes of a whole cycle.
+/// after them the match bytes of a whole cycle.
 fn buffers(name: Name) -> usize {
     match name {
         Name::Start => State::<()>::BUFFERS,
@@ -184,7 +184,7 @@ fn a_refused_start_leaves_an_open_cycle() {
     }
 }
 
-/// The vectors of a whole cycle behind its opening: check, digit, column and
+/// The vectors of a whole cycle after its opening: check, digit, column and
 /// factor.
 fn vectors(shape: Shape, skip: usize) -> Vec<[usize; 4]> {
     let mut array = Array::fresh(shape).unwrap();

@@ -257,7 +257,7 @@ fn an_opening_flags_dead_rows_and_counts_nothing() {
     assert!(above_radix > 1_000);
 }
 
-/// The place of a start's record is 0; behind the opening it is that of the first
+/// The place of a start's record is 0; after the opening it is that of the first
 /// vector, which has count 1.
 #[test]
 fn the_first_vector_has_count_1() {
@@ -310,7 +310,7 @@ fn cycle_with_settings(settings: &[(usize, u8)]) -> (Vec<u8>, u8) {
 
 /// The verdict asks that no line changes from the start on. One that is set to
 /// what it is does no harm. One that some step saw and that is undone may flag a
-/// sound row; one that changes behind the opening may leave a dead row without a
+/// sound row; one that changes after the opening may leave a dead row without a
 /// flag.
 #[test]
 fn a_line_that_changes_in_the_cycle_breaks_the_verdict() {
@@ -322,7 +322,7 @@ fn a_line_that_changes_in_the_cycle_breaks_the_verdict() {
     assert_eq!(flag_with(&[(0, 1), (1, 0)]), 1);
     // set and undone between two steps: no step saw it
     assert_eq!(flag_with(&[(9, 1), (9, 0)]), 0);
-    // dead from behind the opening on, and so at the end
+    // dead from after the opening on, and so at the end
     assert_eq!(flag_with(&[(1, 1)]), 0);
     // dead at one vector: a match of the row that is lost is not made up for
     for (count, &matched) in matches.iter().enumerate().take(28).skip(1) {

@@ -112,11 +112,11 @@ module _ (cs part : List ℕ) (found : ℕ) where
       (block : List ℕ) → found ≤ length part → goes cs (goes block part found) (found + length block) ≡ goes (block ++ cs) part found
   goes-next block h =
       let front : List ℕ = take found part in
-      let behind : List ℕ = filledFrom block (drop found part) in
+      let later : List ℕ = filledFrom block (drop found part) in
       let sized : length front ≡ found = length-take-le found part h in
-      ap (λ n. goes cs (front ++ behind) (n + length block)) (sym sized)
-      ∙ ap₂ (λ xs ys. xs ++ filledFrom cs ys) (take-append-add front behind (length block)) (drop-append-add front behind (length block))
-      ∙ append-assoc front (take (length block) behind) (filledFrom cs (drop (length block) behind))
+      ap (λ n. goes cs (front ++ later) (n + length block)) (sym sized)
+      ∙ ap₂ (λ xs ys. xs ++ filledFrom cs ys) (take-append-add front later (length block)) (drop-append-add front later (length block))
+      ∙ append-assoc front (take (length block) later) (filledFrom cs (drop (length block) later))
       ∙ ap (λ l. front ++ l) (sym (filled-append block cs (drop found part)))
 
   -- no place is left, or no column: it is as it will be

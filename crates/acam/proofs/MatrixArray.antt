@@ -12,6 +12,7 @@ use Rattle.parity.specs.declared.Shape.{Shape}
 use Rattle.parity.proofs.Redundancy.{redundancyClaim}
 use Rattle.parity.proofs.MatrixFacts.{rules-sized, matrixClaim}
 use Rattle.acam.specs.Matrices.{matrixArray}
+use Rattle.acam.specs.Rows.{RulesFit}
 use Rattle.parity.proofs.Sizes.{columns-high}
 
 -- the array before anything is written
@@ -47,6 +48,5 @@ module _ (s : Shape) (t : Taken s) (r : ℕ) (counted : r ≡ checks s) where
   pub rules-fill : ruleColumns (s .errors) r (length (take (s .width) zeros)) ≡ ruleColumns (s .errors) (checks s) (s .width)
   rules-fill = ap₂ (ruleColumns (s .errors)) counted front
 
-  pub rules-ask :
-      (r ≤ 8) × (length (ruleColumns (s .errors) r (length (take (s .width) zeros))) ≡ length (take (s .width) zeros))
-  rules-ask = (omega (arith, redundancyClaim s t .high), ap length rules-fill ∙ rules-sized s t ∙ sym front)
+  pub rules-ask : RulesFit (s .errors) r (length (take (s .width) zeros))
+  rules-ask = record { checks = omega (arith, redundancyClaim s t .high); enough = ap length rules-fill ∙ rules-sized s t ∙ sym front }

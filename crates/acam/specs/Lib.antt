@@ -1,3 +1,4 @@
--- The check matrix as the code has it, and what the code adds up.
+-- The check matrix as the code has it, what the code adds up, and what its functions ask.
 pub mod Matrices
 pub mod Digits
+pub mod Rows

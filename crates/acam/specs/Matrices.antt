@@ -18,6 +18,6 @@ choose (suc r) (suc w) = choose r w + choose r (suc w)
 abbrev pub ruleWeight : ℕ → ℕ → Bool
 ruleWeight τ w = cond (eqb τ 2) (leb 2 w) (leb 3 w && eqb (w % 2) 1)
 
--- the check matrix in an array of 255 bytes, 0 behind it
+-- the check matrix in an array of 255 bytes, and 0 after it
 unfoldable pub matrixArray : Shape → List ℕ
 matrixArray s = matrix s ++ replicate (255 - columns s) 0

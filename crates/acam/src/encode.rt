@@ -6,20 +6,16 @@ use parity::Shape;
 use shape::byte::fill;
 use shape::byte::wide;
 ghost use mathlib.Core.Path.{_≡_};
-ghost use Prim.Native.Nat.{ℕ, _≤_, _<_};
 ghost use lib.ListN.{length, take};
 ghost use Rattle.parity.specs.Lists.{tabulate};
-ghost use Rattle.parity.specs.Shape.{checks as checksOf, columns as columnsOf};
-ghost use Rattle.parity.specs.Matrix.{ruleColumns};
 ghost use Rattle.parity.specs.Codeword.{encode};
-ghost use Rattle.parity.specs.Questions.{Taken};
 ghost use Rattle.acam.specs.Digits.{completed};
+ghost use Rattle.acam.specs.Rows.{ToComplete, RulesLent, ToEncode};
 ghost use Rattle.shape.specs.Lent.{was, left};
 
 // One more digit in each check cell: what brings its check row's sum to 0 mod ρ, at ρ^s = power.
 fn add_check_digits(cells: &mut [u8], sums: [u16; 8], radix: usize, power: usize)
-    requires { ⌜ ((0 < radix) × (radix ≤ 256)) × (length (now cells) ≤ 8) ⌝ }
-    requires { ⌜ ((l : ℕ) → l < length (now cells) → completed (now cells) sums radix power l < 256) ⌝ }
+    requires { ⌜ ToComplete (now cells) sums radix power ⌝ }
     ensures { λ _. ⌜ left cells ≡ tabulate (length (was cells)) (completed (was cells) sums radix power) ⌝ }
 {
     let mut l: usize = 0;
@@ -32,7 +28,7 @@ fn add_check_digits(cells: &mut [u8], sums: [u16; 8], radix: usize, power: usize
 
 // The check cells of a row of n cells, digit after digit, by the columns of its k rule cells.
 fn write_digits(shape: Shape, row: &mut [u8], rules: &[u8])
-    requires { ⌜ Taken shape × (length (now row) ≡ columnsOf shape) × (now rules ≡ ruleColumns (shape .errors) (checksOf shape) (shape .width)) ⌝ }
+    requires { ⌜ RulesLent shape (length (now row)) (now rules) ⌝ }
     ensures { λ _. ⌜ left row ≡ encode shape (take (shape .width) (was row)) ⌝ }
 {
     let radix = shape.radix;
@@ -51,7 +47,7 @@ fn write_digits(shape: Shape, row: &mut [u8], rules: &[u8])
 
 // The check cells of a row of n cells, from its k rule cells. Of the check matrix it makes the columns of these alone.
 pub fn write_checks(shape: Shape, checks: usize, row: &mut [u8])
-    requires { ⌜ Taken shape × (checks ≡ checksOf shape) × (length (now row) ≡ columnsOf shape) ⌝ }
+    requires { ⌜ ToEncode shape checks (length (now row)) ⌝ }
     ensures { λ _. ⌜ left row ≡ encode shape (take (shape .width) (was row)) ⌝ }
 {
     let errors = shape.errors;

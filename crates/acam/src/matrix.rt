@@ -11,10 +11,9 @@ ghost use mathlib.Core.Bool.{cond};
 ghost use Prim.Native.Nat.{_≤_};
 ghost use lib.ListN.{length};
 ghost use Rattle.parity.specs.Lists.{keep, filledFrom};
-ghost use Rattle.parity.specs.Questions.{Taken};
-ghost use Rattle.parity.specs.Shape.{checks as checksOf};
 ghost use Rattle.parity.specs.Matrix.{columnOrder, eligible, ruleColumns, checkColumns};
 ghost use Rattle.acam.specs.Matrices.{ruleWeight, matrixArray};
+ghost use Rattle.acam.specs.Rows.{RulesFit, TakenWith};
 ghost use Rattle.shape.specs.Lent.{was, left};
 
 // How many of a weight's columns can be rule columns, for τ = 2 and 3: all of them or none.
@@ -62,7 +61,7 @@ fn fill_lightest(part: &mut [u8], errors: usize, checks: usize)
 
 // The rule columns, as many as the part holds: 1 in each for τ = 1, else the lightest eligible ones.
 pub(crate) fn fill_rules(part: &mut [u8], errors: usize, checks: usize)
-    requires { ⌜ (checks ≤ 8) × (length (ruleColumns errors checks (length (now part))) ≡ length (now part)) ⌝ }
+    requires { ⌜ RulesFit errors checks (length (now part)) ⌝ }
     ensures { λ _. ⌜ left part ≡ ruleColumns errors checks (length (was part)) ⌝ }
 {
     if errors == 1 {
@@ -83,9 +82,9 @@ fn fill_checks(part: &mut [u8])
     }
 }
 
-// The columns of a shape that is taken with r check columns, and 0 behind them.
+// The columns of a shape that is taken with r check columns, and 0 after them.
 pub fn matrix_of(shape: Shape, checks: usize) -> [u8; 255]
-    requires { ⌜ Taken shape × (checks ≡ checksOf shape) ⌝ }
+    requires { ⌜ TakenWith shape checks ⌝ }
     ensures { λ r. ⌜ r ≡ matrixArray shape ⌝ }
 {
     let errors = shape.errors;

@@ -2,33 +2,23 @@
 use super::sums::floor_sums;
 use super::sums::missing;
 use parity::Shape;
-use shape::byte::largest;
-use shape::byte::wide;
+use shape::byte::all_below;
 ghost use mathlib.Core.Path.{_≡_};
 ghost use mathlib.Core.Bool.{true};
-ghost use Prim.Native.Nat.{_%_, _≤_, _<_};
+ghost use Prim.Native.Nat.{_%_, _≤_};
 ghost use lib.Dec.{eqb, ltb};
 ghost use lib.ListN.{length, getD};
 ghost use Rattle.parity.specs.Lists.{every, everyTo};
-ghost use Rattle.parity.specs.Shape.{levels as levelsOf, checks as checksOf, columns as columnsOf};
+ghost use Rattle.parity.specs.Shape.{levels as levelsOf};
 ghost use Rattle.parity.specs.Codeword.{isCodeword};
-ghost use Rattle.parity.specs.Questions.{Taken};
-ghost use Rattle.acam.specs.Matrices.{matrixArray};
+ghost use Rattle.acam.specs.Rows.{ToTest};
+ghost use Rattle.shape.specs.Bounds.{Within};
 ghost use Rattle.shape.specs.Lent.{was};
-
-// Whether every byte is below a bound.
-pub fn all_below(bytes: &[u8], bound: usize) -> bool
-    ensures { λ r. ⌜ r ≡ every (λ v. ltb v bound) (was bytes) ⌝ }
-{
-    if bytes.len() == 0 {
-        return true;
-    }
-    wide(largest(bytes)) < bound
-}
 
 // Whether the first sums, one for each check row, are 0 mod ρ.
 fn all_balanced(sums: [u16; 8], checks: usize, radix: usize) -> bool
-    requires { ⌜ (checks ≤ 8) × ((0 < radix) × (radix ≤ 256)) ⌝ }
+    requires { ⌜ checks ≤ 8 ⌝ }
+    requires { ⌜ Within 1 radix 256 ⌝ }
     ensures { λ r. ⌜ r ≡ everyTo checks (λ l. eqb (getD sums l 0 % radix) 0) ⌝ }
 {
     let mut l: usize = 0;
@@ -43,8 +33,8 @@ fn all_balanced(sums: [u16; 8], checks: usize, radix: usize) -> bool
 
 // Whether a row of n levels, all below q, is sound.
 pub fn is_balanced(shape: Shape, checks: usize, row: &[u8], matrix: &[u8; 255]) -> bool
-    requires { ⌜ Taken shape × (checks ≡ checksOf shape) × (every (λ v. ltb v (levelsOf shape)) (now row) ≡ true) ⌝ }
-    requires { ⌜ (length (now row) ≡ columnsOf shape) × (now matrix ≡ matrixArray shape) ⌝ }
+    requires { ⌜ ToTest shape checks (length (now row)) (now matrix) ⌝ }
+    requires { ⌜ every (λ v. ltb v (levelsOf shape)) (now row) ≡ true ⌝ }
     ensures { λ r. ⌜ r ≡ isCodeword shape (was row) ⌝ }
 {
     let radix = shape.radix;
@@ -64,8 +54,8 @@ pub fn is_balanced(shape: Shape, checks: usize, row: &[u8], matrix: &[u8; 255]) 
 
 // Whether a row of n bytes, any bytes, is sound.
 pub fn is_sound(shape: Shape, checks: usize, levels: usize, row: &[u8], matrix: &[u8; 255]) -> bool
-    requires { ⌜ Taken shape × (checks ≡ checksOf shape) × (levels ≡ levelsOf shape) ⌝ }
-    requires { ⌜ (length (now row) ≡ columnsOf shape) × (now matrix ≡ matrixArray shape) ⌝ }
+    requires { ⌜ ToTest shape checks (length (now row)) (now matrix) ⌝ }
+    requires { ⌜ levels ≡ levelsOf shape ⌝ }
     ensures { λ r. ⌜ r ≡ isCodeword shape (was row) ⌝ }
 {
     if !all_below(row, levels) {

@@ -6,12 +6,14 @@ ghost use Prim.Native.Nat.{ℕ, _+_, _*_, _/_, _≤_, _<_};
 ghost use lib.ListN.{length, getD};
 ghost use Rattle.parity.specs.Lists.{tabulate};
 ghost use Rattle.parity.specs.Matrix.{bit};
+ghost use Rattle.shape.specs.Bounds.{Within};
 ghost use Rattle.shape.specs.Lent.{was, left};
 ghost use Rattle.acam.specs.Digits.{missing as missingOf, floorSums};
+ghost use Rattle.acam.specs.Rows.{RoomFor, ToDivide, ToSum};
 
 // A value added to the sum of each check row that its column has a one in.
 fn add_value(sums: &mut [u16; 8], column: u8, value: u16)
-    requires { ⌜ (length (now sums) ≡ 8) × ((l : ℕ) → l < 8 → getD (now sums) l 0 + value < 65536) ⌝ }
+    requires { ⌜ RoomFor (now sums) value ⌝ }
     ensures { λ _. ⌜ left sums ≡ tabulate 8 (λ l. getD (was sums) l 0 + bit l column * value) ⌝ }
 {
     let mut rest = column as u16;
@@ -26,7 +28,7 @@ fn add_value(sums: &mut [u16; 8], column: u8, value: u16)
 // value / d from the reciprocal 65536 / d + 1, taken once for many values: a division by a variable costs some 25 cycles,
 // and this product is exact below 256.
 fn quotient(value: u32, reciprocal: u32) -> u32
-    requires { ⌜ (value < 256) × (reciprocal ≤ 65537) ⌝ }
+    requires { ⌜ ToDivide value reciprocal ⌝ }
     ensures { λ r. ⌜ ((d : ℕ) → 0 < d → d ≤ 256 → reciprocal ≡ 65536 / d + 1 → r ≡ value / d) ⌝ }
 {
     value * reciprocal / 65536
@@ -34,7 +36,7 @@ fn quotient(value: u32, reciprocal: u32) -> u32
 
 // For each check row, the cells whose columns have a one there, each over ρ^s = power.
 pub(crate) fn floor_sums(cells: &[u8], matrix: &[u8], power: usize) -> [u16; 8]
-    requires { ⌜ ((0 < power) × (power ≤ 256)) × ((length (now cells) ≤ length (now matrix)) × (length (now matrix) ≤ 255)) ⌝ }
+    requires { ⌜ ToSum (length (now cells)) (length (now matrix)) power ⌝ }
     ensures { λ r. ⌜ r ≡ floorSums (was cells) (was matrix) power ⌝ }
 {
     let reciprocal = (65536 / power + 1) as u32;
@@ -51,7 +53,7 @@ pub(crate) fn floor_sums(cells: &[u8], matrix: &[u8], power: usize) -> [u16; 8]
 // The digit that brings a sum to 0 mod ρ: as much as is missing to the next multiple of ρ. The division by ρ is a product
 // again, now with 2^32 / ρ + 1, exact for every sum of 16 bits; of a loop over sums the compiler takes the reciprocal out.
 pub(crate) fn missing(sum: u16, radix: usize) -> usize
-    requires { ⌜ (0 < radix) × (radix ≤ 256) ⌝ }
+    requires { ⌜ Within 1 radix 256 ⌝ }
     ensures { λ r. ⌜ r ≡ missingOf radix sum ⌝ }
 {
     let reciprocal = 4294967296 / radix + 1;

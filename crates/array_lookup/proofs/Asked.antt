@@ -1,34 +1,61 @@
--- What it says of a lookup's arguments that no question on them fails. Assumes nothing.
-use mathlib.Core.Path.{_≡_}
-use mathlib.Core.List.{List}
-use Prim.Native.Nat.{ℕ}
+-- What it says of a lookup's cells, lines and arguments that no question on them fails. Assumes nothing.
+use mathlib.Core.Path.{_≡_, refl, ap}
+use mathlib.Core.List.{List, [], _∷_}
+use Prim.Native.Nat.{ℕ, _*_}
+use native.Mathlib.Omega.{arith}
 use lib.Dec.{lit<}
 use lib.ListN.{length}
-use borrow.Author.Tests.{eqb-true}
-use Rattle.parity.specs.Questions.{firstNo}
+use Rattle.parity.specs.Shape.{columns, cellCount}
+use Rattle.parity.specs.Questions.{Question, firstNo, lengthsQuestion}
 use Rattle.parity.specs.declared.Shape.{Shape}
-use Rattle.parity.proofs.Taken.{first-yes}
-use Rattle.array_questions.specs.Questions.{cellsQuestions}
-use Rattle.array_questions.proofs.Asked.{CellsTaken, cells-parts}
-use Rattle.array_lookup.specs.Lookups.{lookupArguments}
+use Rattle.parity.proofs.Taken.{first-yes, limits}
+use Rattle.shape.specs.Shapes.{sizesOf}
+use Rattle.shape.specs.declared.sizes.Sizes.{Sizes}
+use Rattle.shape.proofs.Refusals.{length-lent, call-passed}
+use Rattle.array_memory.specs.Lengths.{arrayWanted}
+use Rattle.array_memory.proofs.Asked.{array-counted}
+use Rattle.array_questions.proofs.Asked.{CellsTaken}
+use Rattle.array_lookup.specs.Lookups.{arrayQuestions, lookupArguments, firstArguments}
+use Rattle.array_lookup.specs.Rows.{RowsLent}
 
-pub record LookupTaken (s : Shape) (count lineCount rows : ℕ) (inputs : List ℕ) : Type 0 where
-  pub cells : CellsTaken s count
-  pub matches : rows ≡ s .rows
-  pub lines : lineCount ≡ s .rows
-  pub sized : length inputs ≡ s .width
+-- a shape that is taken, m × n cells, m lines and k inputs
+pub record ArrayTaken (s : Shape) (cellNumber lineNumber : ℕ) (given : List ℕ) : Type 0 where
+  pub cells : CellsTaken s cellNumber
+  pub lines : lineNumber ≡ s .rows
+  pub inputs : length given ≡ s .width
 
-pub lookup-taken :
-    (s : Shape) (count lines rows : ℕ) (inputs : List ℕ) → firstNo (cellsQuestions s count (lookupArguments s lines rows inputs)) ≡ 0
-    → LookupTaken s count lines rows inputs
-lookup-taken s count lines rows inputs none =
-    let parts = cells-parts s count (lookupArguments s lines rows inputs) none in
-    let one = first-yes _ _ 6 (lit< tt) (parts .1) in
-    let two = first-yes _ _ 6 (lit< tt) (one .1) in
-    let three = first-yes _ _ 6 (lit< tt) (two .1) in
-    record {
-      cells = parts .0;
-      matches = eqb-true rows (s .rows) (one .0);
-      lines = eqb-true lines (s .rows) (two .0);
-      sized = eqb-true (length inputs) (s .width) (three .0);
-    }
+module _ (s : Shape) (cells lines : ℕ) where
+  array-parts :
+      (more : List Question) → firstNo (arrayQuestions s cells lines more) ≡ 0 → CellsTaken s cells × (lines ≡ s .rows) × (firstNo more ≡ 0)
+  array-parts more none =
+      let p = call-passed s [] (lengthsQuestion (cells ∷ lines ∷ []) (arrayWanted s)) more refl (lit< tt) none in
+      let at = array-counted s cells lines (p .lent) in
+      (record { taken = p .taken; counted = at .0 }, at .1, p .arguments)
+
+  pub first-taken : (inputs : List ℕ) → firstNo (arrayQuestions s cells lines (firstArguments s inputs)) ≡ 0 → ArrayTaken s cells lines inputs
+  first-taken inputs none =
+      let parts = array-parts (firstArguments s inputs) none in
+      let six = first-yes _ _ 6 (lit< tt) (parts .2) in
+      record { cells = parts .0; lines = parts .1; inputs = length-lent (length inputs ∷ []) (s .width ∷ []) (six .0) 0 }
+
+  -- .. and m match bytes
+  pub lookup-taken :
+      (inputs : List ℕ) (matches : ℕ) → firstNo (arrayQuestions s cells lines (lookupArguments s inputs matches)) ≡ 0
+      → ArrayTaken s cells lines inputs × (matches ≡ s .rows)
+  lookup-taken inputs matches none =
+      let parts = array-parts (lookupArguments s inputs matches) none in
+      let six = first-yes _ _ 6 (lit< tt) (parts .2) in
+      let at = length-lent (length inputs ∷ matches ∷ []) (s .width ∷ s .rows ∷ []) (six .0) in
+      (record { cells = parts .0; lines = parts .1; inputs = at 0 }, at 1)
+
+  -- the rows that a lookup goes through, by the sizes in hand
+  pub rows-lent : (z : Sizes) (inputs : List ℕ) → ArrayTaken s cells lines inputs → z ≡ sizesOf s → RowsLent cells lines (length inputs) (z .columns) (s .rows)
+  unfolding columns cellCount
+  rows-lent z inputs p e =
+      let wide = ap (λ z. z .columns) e in
+      record {
+        inputs = omega (arith, wide, p .inputs);
+        cells = omega (arith, p .cells .counted, ap (λ z. s .rows * z .columns) e);
+        lines = p .lines;
+        few = limits s (p .cells .taken) .rowsHigh;
+      }

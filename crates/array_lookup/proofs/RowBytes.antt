@@ -15,7 +15,6 @@ use Rattle.shape.specs.declared.sizes.Sizes.{Sizes}
 use Rattle.acam.proofs.TaskMatch.{task-match}
 use Rattle.shape.specs.Shapes.{sizesOf}
 use Rattle.array_memory.specs.Geometry.{rowAt, rowMatch}
-use Rattle.array_memory.specs.Memory.{cellCount}
 use Rattle.array_memory.proofs.RowPlaces.{row-sized}
 use Rattle.array_questions.proofs.Asked.{CellsTaken}
 
@@ -39,16 +38,7 @@ pub part-byte :
 part-byte inputs cells lines n i start size e h =
     ap (lineMatch (getD lines i 0) inputs) (take-take (length inputs) size (drop start cells) h ∙ ap (λ x. take (length inputs) (drop x cells)) e)
 
--- of cells that are taken, by the sizes in hand
-module _ {s : Shape} {count : ℕ} (p : CellsTaken s count) (z : Sizes) (e : z ≡ sizesOf s) where
-  pub inputs-fit : (k : ℕ) → k ≡ s .width → k ≤ z .columns
-  unfolding columns
-  inputs-fit k sized = omega (arith, ap (λ z. z .columns) e)
-
-  pub rows-fit : s .rows * z .columns ≤ count
-  unfolding cellCount
-  rows-fit = omega (arith, p .counted, ap (λ z. s .rows * z .columns) e)
-
+-- a task lookup's match byte, by the sizes in hand
 pub task-byte :
     (s : Shape) (z : Sizes) (inputs cells lines : List ℕ) → CellsTaken s (length cells) → z ≡ sizesOf s → length inputs ≡ s .width
     → (i : ℕ) → i < s .rows → byteOf inputs cells lines (z .columns) i ≡ rowMatch (columns s) (taskVector s inputs) cells lines i

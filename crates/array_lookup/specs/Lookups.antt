@@ -5,23 +5,23 @@ use lib.Dec.{eqb}
 use lib.ListN.{length}
 use Rattle.parity.specs.Lists.{sumOver, firstFrom}
 use Rattle.parity.specs.Match.{taskVector}
-use Rattle.parity.specs.Shape.{columns}
-use Rattle.parity.specs.Questions.{Question, firstNo, lengthQuestion, inputsQuestion}
+use Rattle.parity.specs.Shape.{levels, columns}
+use Rattle.parity.specs.Questions.{Question, firstNo, callQuestions, lengthsQuestion, inputsQuestion}
 use Rattle.parity.specs.declared.Shape.{Shape}
 use Rattle.shape.specs.Answers.{Said, Found, none, rowOrNone, Result, accepted, answering, giving, calling}
 use Rattle.array_memory.specs.Geometry.{rowMatch, matchBytes}
-use Rattle.array_memory.specs.Memory.{Memory, linesLength}
-use Rattle.array_questions.specs.Questions.{cellsQuestions}
+use Rattle.array_memory.specs.Lengths.{arrayWanted}
+use Rattle.array_memory.specs.Memory.{Memory}
 
--- what a lookup asks of the lines and of its k inputs: 6 on their numbers, 8 on each input
-abbrev pub inputArguments : Shape → ℕ → List ℕ → List Question
-inputArguments s lines inputs = linesLength s lines ∷ lengthQuestion (length inputs) (s .width) ∷ inputsQuestion s inputs ∷ []
+-- 1 to 5, 6 on cells and lines, by their numbers, and what a lookup asks of its arguments
+abbrev pub arrayQuestions : Shape → ℕ → ℕ → List Question → List Question
+arrayQuestions s cells lines arguments = callQuestions s [] (lengthsQuestion (cells ∷ lines ∷ []) (arrayWanted s)) arguments
 
 -- ---- task lookup
 
--- 6 on the buffer for match bytes too
-abbrev pub lookupArguments : Shape → ℕ → ℕ → List ℕ → List Question
-lookupArguments s lines matches inputs = lengthQuestion matches (s .rows) ∷ inputArguments s lines inputs
+-- 6 on the k inputs and the m match bytes, by their number, 8 on each input
+abbrev pub lookupArguments : Shape → List ℕ → ℕ → List Question
+lookupArguments s inputs matches = lengthsQuestion (length inputs ∷ matches ∷ []) (s .width ∷ s .rows ∷ []) ∷ inputsQuestion (levels s) inputs ∷ []
 
 -- the match bytes of all rows, the check columns being fed 0
 unfoldable pub taskMatches : Shape → Memory → List ℕ → List ℕ
@@ -33,10 +33,14 @@ taskCount s mem inputs = sumOver (taskMatches s mem inputs) (λ byte. byte)
 
 unfoldable pub lookupCall : Shape → Memory → List ℕ → List ℕ → Result Memory
 lookupCall s mem inputs matches =
-    calling (cellsQuestions s (length (mem .cells)) (lookupArguments s (length (mem .lines)) (length matches) inputs)) matches mem
+    calling (arrayQuestions s (length (mem .cells)) (length (mem .lines)) (lookupArguments s inputs (length matches))) matches mem
     (giving (accepted (taskCount s mem inputs)) (taskMatches s mem inputs) mem)
 
 -- ---- first match
+
+-- 6 on the k inputs, 8 on each
+abbrev pub firstArguments : Shape → List ℕ → List Question
+firstArguments s inputs = lengthsQuestion (length inputs ∷ []) (s .width ∷ []) ∷ inputsQuestion (levels s) inputs ∷ []
 
 -- the first of m rows whose match byte is 1
 abbrev pub firstRow : ℕ → (ℕ → ℕ) → Found
@@ -45,5 +49,5 @@ firstRow m byte = rowOrNone m (firstFrom (λ i. eqb (byte i) 1) m 0)
 -- the first row that a task lookup of the inputs matches, or none
 unfoldable pub firstCall : Shape → Memory → List ℕ → Said Found
 firstCall s mem inputs =
-    answering none (firstNo (cellsQuestions s (length (mem .cells)) (inputArguments s (length (mem .lines)) inputs)))
+    answering none (firstNo (arrayQuestions s (length (mem .cells)) (length (mem .lines)) (firstArguments s inputs)))
     (firstRow (s .rows) (rowMatch (columns s) (taskVector s inputs) (mem .cells) (mem .lines)))

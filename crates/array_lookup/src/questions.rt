@@ -1,45 +1,43 @@
-// The questions of the lookups.
-use acam::sound::all_below;
-use array_questions::check_cells;
+// The questions of the lookups, asked in their order: each function gives the shape's sizes, or the number of the first no.
 use parity::Shape;
+use shape::questions::same_lengths;
 use shape::sizes::Checked;
+use shape::sizes::check_shape;
 ghost use mathlib.Core.Path.{_≡_};
 ghost use Rattle.parity.specs.Questions.{firstNo};
 ghost use Rattle.shape.specs.Lent.{was};
 ghost use Rattle.shape.specs.Shapes.{checkedSays, sizesIf};
-ghost use Rattle.array_questions.specs.Questions.{cellsQuestions};
-ghost use Rattle.array_lookup.specs.Lookups.{lookupArguments};
+ghost use Rattle.array_lookup.specs.Lookups.{arrayQuestions, lookupArguments, firstArguments};
 
-// 1 to 5, 6 on the cells, the match bytes, the lines and the inputs, 8 on the inputs. A call that no buffer for match bytes
-// comes with gives m for their number.
-pub(crate) fn check_lookup(
+// Task lookup.
+pub fn check_lookup(
     shape: Shape,
     cells: usize,
     lines: usize,
-    matches: usize,
     inputs: &[u8],
+    matches: usize,
 ) -> Checked
-    ensures { λ r. ⌜ checkedSays r ≡ sizesIf (firstNo (cellsQuestions shape cells (lookupArguments shape lines matches (was inputs)))) shape ⌝ }
+    ensures { λ r. ⌜ checkedSays r ≡ sizesIf (firstNo (arrayQuestions shape cells lines (lookupArguments shape (was inputs) matches))) shape ⌝ }
 {
-    match check_cells(shape, cells) {
-        Checked::Refused(number) => Checked::Refused(number),
-        Checked::Taken(sizes) => {
-            let levels = sizes.levels;
-            let rows = shape.rows;
-            let width = shape.width;
-            if matches != rows {
-                return Checked::Refused(6);
-            }
-            if lines != rows {
-                return Checked::Refused(6);
-            }
-            if inputs.len() != width {
-                return Checked::Refused(6);
-            }
-            if !all_below(inputs, levels) {
-                return Checked::Refused(8);
-            }
-            Checked::Taken(sizes)
-        }
-    }
+    let asked = check_shape(shape);
+    let sizes = asked.sizes();
+    let rows = shape.rows;
+    let lent = [cells, lines, inputs.len(), matches];
+    let wanted = [sizes.cells, rows, shape.width, rows];
+    asked
+        .check(6, same_lengths(&lent, &wanted))
+        .check_levels(inputs)
+}
+
+// First match.
+pub fn check_first(shape: Shape, cells: usize, lines: usize, inputs: &[u8]) -> Checked
+    ensures { λ r. ⌜ checkedSays r ≡ sizesIf (firstNo (arrayQuestions shape cells lines (firstArguments shape (was inputs)))) shape ⌝ }
+{
+    let asked = check_shape(shape);
+    let sizes = asked.sizes();
+    let lent = [cells, lines, inputs.len()];
+    let wanted = [sizes.cells, shape.rows, shape.width];
+    asked
+        .check(6, same_lengths(&lent, &wanted))
+        .check_levels(inputs)
 }

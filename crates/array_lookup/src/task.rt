@@ -5,15 +5,19 @@ use parity::Shape;
 use shape::answer::Answer;
 use shape::byte::wide;
 use shape::sizes::Checked;
+use shape::sizes::Sizes;
 ghost use mathlib.Core.Path.{_≡_};
-ghost use Prim.Native.Nat.{_*_, _≤_};
+ghost use Prim.Native.Nat.{_*_};
 ghost use lib.ListN.{length, getD, take, drop};
 ghost use Rattle.parity.specs.Lists.{tabulate, sumOver};
 ghost use Rattle.parity.specs.Match.{lineMatch};
 ghost use Rattle.shape.specs.Lent.{was, left};
-ghost use Rattle.shape.specs.Answers.{answerSays, giving};
-ghost use Rattle.array_memory.specs.Memory.{Memory, withArray};
-ghost use Rattle.array_lookup.specs.Lookups.{lookupCall};
+ghost use Rattle.shape.specs.Answers.{accepted, answerSays, giving};
+ghost use Rattle.shape.specs.Shapes.{Passed};
+ghost use Rattle.array_memory.specs.Memory.{Memory};
+ghost use Rattle.array_memory.specs.Buffers.{wasArray, leftArray};
+ghost use Rattle.array_lookup.specs.Lookups.{arrayQuestions, lookupArguments, lookupCall};
+ghost use Rattle.array_lookup.specs.Rows.{RowsLent};
 
 // The match byte of every row for the inputs, with the other cells fed 0, and the number of matches.
 fn match_rows(
@@ -23,8 +27,7 @@ fn match_rows(
     inputs: &[u8],
     matches: &mut [u8],
 ) -> usize
-    requires { ⌜ (length (now inputs) ≤ columns) × (length (now matches) * columns ≤ length (now cells)) × (length (now matches) ≤ 4096)
-        × (length (now lines) ≡ length (now matches)) ⌝ }
+    requires { ⌜ RowsLent (length (now cells)) (length (now lines)) (length (now inputs)) columns (length (now matches)) ⌝ }
     ensures counted { λ r. ⌜ r ≡ sumOver (left matches) (λ byte. byte) ⌝ }
     ensures matched { λ _. ⌜ left matches
         ≡ tabulate (length (was matches)) (λ i. lineMatch (getD (was lines) i 0) (was inputs) (take (length (was inputs)) (drop (i * columns) (was cells)))) ⌝ }
@@ -43,16 +46,33 @@ fn match_rows(
     count
 }
 
+// A task lookup whose questions have been passed: the number of matches.
+pub fn lookup_lent(
+    shape: Shape,
+    sizes: Sizes,
+    cells: &[u8],
+    lines: &[u8],
+    inputs: &[u8],
+    matches: &mut [u8],
+) -> usize
+    requires { ⌜ Passed (arrayQuestions shape (length (now cells)) (length (now lines)) (lookupArguments shape (now inputs) (length (now matches))))
+        shape sizes ⌝ }
+    ensures { λ r. ⌜ ((mem : Memory) → lookupCall shape (wasArray cells lines mem) (was inputs) (was matches)
+        ≡ giving (accepted r) (left matches) (leftArray cells lines mem)) ⌝ }
+{
+    let columns = sizes.columns;
+    match_rows(cells, lines, columns, inputs, matches)
+}
+
 // Task lookup: one match byte per row, and the number of matches.
 pub fn lookup(shape: Shape, cells: &[u8], lines: &[u8], inputs: &[u8], matches: &mut [u8]) -> Answer
-    ensures { λ r. ⌜ ((mem : Memory) → lookupCall shape (withArray (was cells) (was lines) mem) (was inputs) (was matches)
-        ≡ giving (answerSays r) (left matches) (withArray (was cells) (was lines) mem)) ⌝ }
+    ensures { λ r. ⌜ ((mem : Memory) → lookupCall shape (wasArray cells lines mem) (was inputs) (was matches)
+        ≡ giving (answerSays r) (left matches) (leftArray cells lines mem)) ⌝ }
 {
-    match check_lookup(shape, cells.len(), lines.len(), matches.len(), inputs) {
+    match check_lookup(shape, cells.len(), lines.len(), inputs, matches.len()) {
         Checked::Refused(number) => Answer::Refused(number),
         Checked::Taken(sizes) => {
-            let columns = sizes.columns;
-            Answer::Is(match_rows(cells, lines, columns, inputs, matches))
+            Answer::Is(lookup_lent(shape, sizes, cells, lines, inputs, matches))
         }
     }
 }

@@ -1,14 +1,15 @@
 -- Flags that lie block after block: how many blocks there are, and the part of the flags that a block is. Assumes nothing.
-use mathlib.Core.Path.{_≡_, sym, _∙_, ap}
-use mathlib.Core.Logic.{_⊎_, ⊎-elim}
+use mathlib.Core.Path.{_≡_, refl, sym, _∙_, ap}
+use mathlib.Core.Bool.{Bool, true, false}
 use mathlib.Core.List.{List}
 use Prim.Native.Nat.{ℕ, _+_, _-_, _*_, _≤_, _<_}
-use native.Mathlib.Nat.{add-sub-cancel-left}
 use native.Mathlib.Omega.{arith}
+use lib.Dec.{leb}
 use lib.ListN.{length, getD, take, drop, length-take, length-drop}
 use lib.Seq.{take-all, getD-take, getD-drop}
+use borrow.Author.Tests.{leb-true, leb-false}
 use borrow.Rule.Slice.PartMut.{midOf}
-use Rattle.array_memory.specs.Blocks.{blocksOf, blockAt}
+use Rattle.array_memory.specs.Blocks.{blocksOf, blockEnd, blockAt}
 
 -- block i starts before the end of the rows
 pub block-starts : (i m : ℕ) → i < blocksOf m → i * 64 < m
@@ -35,18 +36,16 @@ unfolding blockAt
 block-flag flags i j h = getD-take 64 (drop (i * 64) flags) j 0 h ∙ getD-drop (i * 64) flags j 0
 
 -- block i, lent as `flags[start..end]`
-pub block-part :
-    (flags : List ℕ) (i start end : ℕ) → start ≡ i * 64 → ((end ≡ start + 64) ⊎ ((end ≡ length flags) × (length flags ≤ start + 64)))
-    → midOf start (end - start) flags ≡ blockAt flags i
+pub block-part : (flags : List ℕ) (i start end : ℕ) → start ≡ i * 64 → end ≡ blockEnd start (length flags) → midOf start (end - start) flags ≡ blockAt flags i
 unfolding blockAt
-block-part flags i start end begins ends =
-    ⊎-elim
-    (λ (e : end ≡ start + 64).
-    ap (λ k. take (k - start) (drop start flags)) e
-    ∙ ap (λ k. take k (drop start flags)) (add-sub-cancel-left start 64)
-    ∙ ap (λ k. take 64 (drop k flags)) begins)
-    (λ (e : (end ≡ length flags) × (length flags ≤ start + 64)).
-    take-all (end - start) (drop start flags) (omega (arith, e .0, length-drop start flags))
-    ∙ sym (take-all 64 (drop start flags) (omega (arith, e .1, length-drop start flags)))
-    ∙ ap (λ k. take 64 (drop k flags)) begins)
-    ends
+block-part flags i start end begins ends = go (leb (start + 64) (length flags)) refl
+  where
+    go : (b : Bool) → leb (start + 64) (length flags) ≡ b → midOf start (end - start) flags ≡ take 64 (drop (i * 64) flags)
+    go true e =
+        let whole : end - start ≡ 64 = omega (arith, leb-true (start + 64) (length flags) e) in
+        ap (λ k. take k (drop start flags)) whole ∙ ap (λ k. take 64 (drop k flags)) begins
+    go false e =
+        let short : length flags ≤ start + 64 = omega (arith, leb-false (start + 64) (length flags) e) in
+        take-all (end - start) (drop start flags) (omega (arith, length-drop start flags))
+        ∙ sym (take-all 64 (drop start flags) (omega (arith, length-drop start flags)))
+        ∙ ap (λ k. take 64 (drop k flags)) begins

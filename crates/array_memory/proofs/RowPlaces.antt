@@ -7,13 +7,12 @@ use native.Mathlib.Omega.{arith}
 use lib.ListN.{length, getD, take, drop, length-drop}
 use lib.Seq.{getD-take, getD-drop, drop-drop, length-take-le, take-take}
 use borrow.Rule.Slice.PartMut.{midOf, putMid}
-use Rattle.parity.specs.Shape.{columns}
+use Rattle.parity.specs.Shape.{columns, cellCount}
 use Rattle.parity.specs.Questions.{Taken}
 use Rattle.parity.specs.declared.Shape.{Shape}
 use Rattle.parity.proofs.Taken.{limits}
 use Rattle.parity.proofs.Sizes.{columns-high}
 use Rattle.array_memory.specs.Geometry.{rowAt, withRow}
-use Rattle.array_memory.specs.Memory.{cellCount}
 
 -- the end of a row is within the cells
 pub row-fits : (row m n : ℕ) → row < m → row * n + n ≤ m * n

@@ -1,7 +1,7 @@
 -- Blocks of 64 rows, the last of which may be short, and the number of flagged rows of each.
 use mathlib.Core.Bool.{Bool, not}
 use mathlib.Core.List.{List}
-use Prim.Native.Nat.{ℕ, _+_, _*_, _/_}
+use Prim.Native.Nat.{ℕ, _+_, _*_, _/_, min}
 use lib.Dec.{eqb}
 use lib.ListN.{length, take, drop}
 use Rattle.parity.specs.Lists.{tabulate, keep}
@@ -13,6 +13,10 @@ blocksOf m = (m + 63) / 64
 
 abbrev pub blocks : Shape → ℕ
 blocks s = blocksOf (s .rows)
+
+-- the end of the block that starts at a row: a block further on, or the end of the rows
+abbrev pub blockEnd : ℕ → ℕ → ℕ
+blockEnd start m = min (start + 64) m
 
 -- the flags of block i: 64 of them, fewer where the rows end
 unfoldable pub blockAt : List ℕ → ℕ → List ℕ

@@ -1,29 +1,30 @@
--- What it says of a call's arguments that no question on them fails, and the first no behind the questions on the cells. Assumes nothing.
-use mathlib.Core.Path.{_≡_, refl, _∙_, ap}
+-- What it says of a call's arguments that no question on them fails. Assumes nothing.
+use mathlib.Core.Path.{_≡_, refl, ap}
 use mathlib.Core.Bool.{true}
 use mathlib.Core.List.{List, [], _∷_, _++_}
 use Prim.Native.Nat.{ℕ, _+_, _*_, _≤_, _<_}
 use native.Mathlib.Omega.{arith}
-use lib.Dec.{eqb, ltb, lit<}
+use lib.Dec.{ltb, lit<}
 use lib.ListN.{length}
-use borrow.Author.Tests.{eqb-true, leb-true, ltb-true, eq-eqb, lt-ltb}
+use borrow.Author.Tests.{leb-true, ltb-true, lt-ltb}
 use Rattle.parity.specs.Lists.{every}
-use Rattle.parity.specs.Shape.{levels, columns}
+use Rattle.parity.specs.Shape.{levels, checks, columns, cellCount}
 use Rattle.parity.specs.Codeword.{Codeword, isCodeword}
 use Rattle.parity.specs.Claims.{Below}
-use Rattle.parity.specs.Questions.{Question, firstNo, shapeQuestions, shapeRefusal, Taken}
+use Rattle.parity.specs.Questions.{Question, firstNo, Taken, placeQuestion, levelsQuestion, lineQuestion, soundQuestion, lengthsQuestion}
 use Rattle.parity.specs.declared.Shape.{Shape}
+use Rattle.parity.proofs.Alongside.{equal-alongside}
 use Rattle.parity.proofs.ListLaws.{every-at, every-passes}
 use Rattle.parity.proofs.CodewordTest.{codeword-test}
 use Rattle.parity.proofs.Taken.{first-yes}
+use Rattle.shape.specs.Shapes.{sizesOf}
 use Rattle.shape.specs.declared.sizes.Sizes.{Sizes}
-use Rattle.shape.specs.declared.sizes.Checked.{Checked}
-use Rattle.shape.specs.Shapes.{sizesOf, checkedSays, sizesIf, thenSays}
-use Rattle.shape.proofs.Refusals.{numbered, first-none, taken-rest, answer-then}
-use Rattle.array_memory.specs.Memory.{cellCount, cellsLength, linesLength}
+use Rattle.shape.proofs.Refusals.{length-lent, call-passed}
+use Rattle.array_memory.specs.Lengths.{cellsWanted, linesWanted}
+use Rattle.array_memory.proofs.Asked.{cells-counted, lines-counted}
 use Rattle.array_memory.proofs.RowPlaces.{row-fits, cells-high}
-use Rattle.array_questions.specs.Questions.{cellsQuestions, rowArguments, programArguments, driftArguments, lineArguments, lineQuestions}
-use Rattle.array_questions.specs.Questions.{askArguments, commitArguments}
+use Rattle.array_questions.specs.Questions.{cellsQuestions, linesQuestions, readArguments, driftArguments, lineArguments}
+use Rattle.array_questions.specs.Questions.{programArguments, askArguments, commitArguments}
 
 -- ---- the cells
 
@@ -32,46 +33,51 @@ pub record CellsTaken (s : Shape) (cells : ℕ) : Type 0 where
   pub taken : Taken s
   pub counted : cells ≡ cellCount s
 
-module _ (s : Shape) (cells : ℕ) where
-  pub cells-taken : firstNo (cellsQuestions s cells []) ≡ 0 → CellsTaken s cells
-  unfolding shapeRefusal
-  cells-taken none =
-      let parts = first-none (shapeQuestions s) (cellsLength s cells ∷ []) refl none in
-      record { taken = parts .0; counted = eqb-true cells (cellCount s) (first-yes _ 0 6 (lit< tt) (parts .1) .0) }
+-- .. and then what is asked of the arguments
+pub cells-parts :
+    (s : Shape) (cells : ℕ) (more : List Question) → firstNo (cellsQuestions s cells more) ≡ 0 → CellsTaken s cells × (firstNo more ≡ 0)
+cells-parts s cells more none =
+    let p = call-passed s [] (lengthsQuestion (cells ∷ []) (cellsWanted s)) more refl (lit< tt) none in
+    (record { taken = p .taken; counted = cells-counted s cells (p .lent) }, p .arguments)
 
-  -- .. and then what else is asked
-  pub cells-parts : (own : List Question) → firstNo (cellsQuestions s cells own) ≡ 0 → CellsTaken s cells × (firstNo own ≡ 0)
-  cells-parts own none =
-      let parts = first-none (cellsQuestions s cells []) own refl none in
-      (cells-taken (parts .0), parts .1)
-
-  pub cells-rest : CellsTaken s cells → (own : List Question) → firstNo (cellsQuestions s cells own) ≡ firstNo own
-  cells-rest p own = taken-rest s (p .taken) (cellsLength s cells ∷ own) ∙ rw (eq-eqb cells (cellCount s) (p .counted)) refl
-
-  -- what is answered, where it is asked behind an answer to the questions before it
-  pub cells-then :
-      (before own : List Question) → numbered before ≡ true → (asked next : Checked)
-      → checkedSays asked ≡ sizesIf (firstNo (cellsQuestions s cells before)) s → checkedSays next ≡ thenSays asked own
-      → checkedSays next ≡ sizesIf (firstNo (cellsQuestions s cells (before ++ own))) s
-  cells-then before own numbers asked next e behind = behind ∙ answer-then (cellsQuestions s cells before) own s asked numbers e
-
--- ---- a row, and the k bytes that come with it
-pub record RowTaken (s : Shape) (count given row : ℕ) : Type 0 where
-  pub cells : CellsTaken s count
-  pub part : given ≡ s .width
+-- a row of them, by the sizes in hand: where it lies
+pub record RowLies (s : Shape) (z : Sizes) (cells row : ℕ) : Type 0 where
+  pub taken : Taken s
+  pub counted : cells ≡ cellCount s
   pub place : row < s .rows
+  pub checks : z .checks ≡ checks s
+  pub wide : z .columns ≡ columns s
+  pub within : row * z .columns + z .columns ≤ cells
+  pub bound : cells ≤ 1044480
 
-pub row-taken : (s : Shape) (cells part row : ℕ) → firstNo (cellsQuestions s cells (rowArguments s part row)) ≡ 0 → RowTaken s cells part row
-row-taken s cells part row none =
-    let parts = cells-parts s cells (rowArguments s part row) none in
-    let one = first-yes _ _ 6 (lit< tt) (parts .1) in
-    let two = first-yes _ 0 7 (lit< tt) (one .1) in
-    record { cells = parts .0; part = eqb-true part (s .width) (one .0); place = ltb-true row (s .rows) (two .0) }
+pub row-lies : (s : Shape) (z : Sizes) (cells row : ℕ) → CellsTaken s cells → z ≡ sizesOf s → row < s .rows → RowLies s z cells row
+unfolding cellCount
+row-lies s z cells row p e h =
+    record {
+      taken = p .taken;
+      counted = p .counted;
+      place = h;
+      checks = ap (λ z. z .checks) e;
+      wide = ap (λ z. z .columns) e;
+      within = rw (e, p .counted) (row-fits row (s .rows) (columns s) h);
+      bound = omega (arith, p .counted, cells-high s (p .taken));
+    }
 
--- ---- levels
+-- ---- the arguments
 
-levels-given : (s : Shape) (given : List ℕ) → every (λ v. ltb v (levels s)) given ≡ true → Below (levels s) (length given) given
-levels-given s given e j h = ltb-true _ _ (every-at (λ v. ltb v (levels s)) given 0 e j h)
+-- a row's number
+pub row-reads : (s : Shape) (row : ℕ) (more : List Question) → firstNo (placeQuestion row (s .rows) ∷ more) ≡ 0 → (row < s .rows) × (firstNo more ≡ 0)
+row-reads s row more e = let one = first-yes _ _ 7 (lit< tt) e in (ltb-true row (s .rows) (one .0), one .1)
+
+-- what read asks
+pub read-reads : (s : Shape) (row out : ℕ) → firstNo (readArguments s row out) ≡ 0 → (out ≡ s .width) × (row < s .rows)
+read-reads s row out e =
+    let one = first-yes _ _ 6 (lit< tt) e in
+    (length-lent (out ∷ []) (s .width ∷ []) (one .0) 0, row-reads s row [] (one .1) .0)
+
+-- levels below q
+levels-reads : (q : ℕ) (given : List ℕ) → every (λ v. ltb v q) given ≡ true → Below q (length given) given
+levels-reads q given e j h = ltb-true _ _ (every-at (λ v. ltb v q) given 0 e j h)
 
 module _ (s : Shape) (row : ℕ) (given : List ℕ) where
   -- what programming asks
@@ -80,27 +86,32 @@ module _ (s : Shape) (row : ℕ) (given : List ℕ) where
     pub place : row < s .rows
     pub below : Below (levels s) (s .width) given
 
+  programs :
+      length given ≡ s .width → firstNo (placeQuestion row (s .rows) ∷ levelsQuestion (levels s) given ∷ []) ≡ 0 → Programs
+  programs sized e =
+      let seven = row-reads s row (levelsQuestion (levels s) given ∷ []) e in
+      let eight = first-yes _ 0 8 (lit< tt) (seven .1) in
+      record { sized = sized; place = seven .0; below = rw sized at (levels-reads (levels s) given (eight .0)) }
+
   pub program-reads : firstNo (programArguments s row given) ≡ 0 → Programs
   program-reads e =
-      let one = first-yes _ _ 6 (lit< tt) e in
-      let two = first-yes _ _ 7 (lit< tt) (one .1) in
-      let three = first-yes _ 0 8 (lit< tt) (two .1) in
-      let sized = eqb-true (length given) (s .width) (one .0) in
-      record { sized = sized; place = ltb-true row (s .rows) (two .0); below = rw sized at (levels-given s given (three .0)) }
+      let six = first-yes _ _ 6 (lit< tt) e in
+      programs (length-lent (length given ∷ []) (s .width ∷ []) (six .0) 0) (six .1)
 
   pub program-fits : Programs → firstNo (programArguments s row given) ≡ 0
   program-fits p =
       simp (
-        eq-eqb (length given) (s .width) (p .sized),
+        equal-alongside (length given ∷ []) (s .width ∷ []) (λ i. p .sized i ∷ []),
         lt-ltb row (s .rows) (p .place),
         every-passes (λ v. ltb v (levels s)) given 0 (λ j h. lt-ltb _ _ (p .below j (omega (arith, p .sized)))),
       )
 
   -- what ask asks: that, and n bytes for the finished row
-  pub ask-reads : (buffer : List ℕ) → firstNo (askArguments s row given buffer) ≡ 0 → (length buffer ≡ columns s) × Programs
+  pub ask-reads : (buffer : ℕ) → firstNo (askArguments s row given buffer) ≡ 0 → (buffer ≡ columns s) × Programs
   ask-reads buffer e =
-      let one = first-yes _ _ 6 (lit< tt) e in
-      (eqb-true (length buffer) (columns s) (one .0), program-reads (one .1))
+      let six = first-yes _ _ 6 (lit< tt) e in
+      let at = length-lent (length given ∷ buffer ∷ []) (s .width ∷ columns s ∷ []) (six .0) in
+      (at 1, programs (at 0) (six .1))
 
 -- what commit asks
 pub record Commits (s : Shape) (row : ℕ) (finished : List ℕ) : Type 0 where
@@ -109,11 +120,10 @@ pub record Commits (s : Shape) (row : ℕ) (finished : List ℕ) : Type 0 where
 
 pub commit-reads : (s : Shape) (row : ℕ) (finished : List ℕ) → firstNo (commitArguments s row finished) ≡ 0 → Commits s row finished
 commit-reads s row finished e =
-    let one = first-yes (eqb (length finished) (columns s)) _ 6 (lit< tt) e in
-    let two = first-yes (ltb row (s .rows)) _ 7 (lit< tt) (one .1) in
-    let three = first-yes (every (λ v. ltb v (levels s)) finished) _ 8 (lit< tt) (two .1) in
-    let four = first-yes (isCodeword s finished) 0 17 (lit< tt) (three .1) in
-    record { place = ltb-true row (s .rows) (two .0); sound = codeword-test s finished (four .0) }
+    let six = first-yes (lengthsQuestion (length finished ∷ []) (columns s ∷ []) .holds) _ 6 (lit< tt) e in
+    let seven = row-reads s row (levelsQuestion (levels s) finished ∷ soundQuestion s finished ∷ []) (six .1) in
+    let eight = first-yes (every (λ v. ltb v (levels s)) finished) _ 8 (lit< tt) (seven .1) in
+    record { place = seven .0; sound = codeword-test s finished (first-yes (isCodeword s finished) 0 17 (lit< tt) (eight .1) .0) }
 
 -- what a drift asks
 pub record Drifts (s : Shape) (row column level : ℕ) : Type 0 where
@@ -123,42 +133,28 @@ pub record Drifts (s : Shape) (row column level : ℕ) : Type 0 where
 
 pub drift-reads : (s : Shape) (row column level : ℕ) → firstNo (driftArguments s row column level) ≡ 0 → Drifts s row column level
 drift-reads s row column level e =
-    let one = first-yes _ _ 7 (lit< tt) e in
-    let two = first-yes _ _ 7 (lit< tt) (one .1) in
-    let three = first-yes _ 0 8 (lit< tt) (two .1) in
+    let seven = row-reads s row (placeQuestion column (columns s) ∷ levelsQuestion (levels s) (level ∷ []) ∷ []) e in
+    let again = first-yes _ _ 7 (lit< tt) (seven .1) in
     record {
-      place = ltb-true row (s .rows) (one .0);
-      within = ltb-true column (columns s) (two .0);
-      below = levels-given s (level ∷ []) (three .0) 0 (omega arith);
+      place = seven .0;
+      within = ltb-true column (columns s) (again .0);
+      below = levels-reads (levels s) (level ∷ []) (first-yes _ 0 8 (lit< tt) (again .1) .0) 0 (omega arith);
     }
 
--- what setting a line asks
-pub record Sets (s : Shape) (row byte : ℕ) : Type 0 where
+-- what setting a line asks, of lines that have their length
+pub record Sets (s : Shape) (lines row byte : ℕ) : Type 0 where
+  pub taken : Taken s
+  pub counted : lines ≡ s .rows
   pub place : row < s .rows
   pub within : byte ≤ 1
 
-pub line-reads : (s : Shape) (row byte : ℕ) → firstNo (lineArguments s row byte) ≡ 0 → Sets s row byte
-line-reads s row byte e =
-    let one = first-yes _ _ 7 (lit< tt) e in
-    let two = first-yes _ 0 16 (lit< tt) (one .1) in
-    record { place = ltb-true row (s .rows) (one .0); within = leb-true byte 1 (two .0) }
-
--- .. of lines that have their length
-pub lines-parts :
-    (s : Shape) (lines row byte : ℕ) → firstNo (lineQuestions s lines row byte) ≡ 0
-    → Taken s × (lines ≡ s .rows) × (firstNo (lineArguments s row byte) ≡ 0)
-unfolding shapeRefusal
-lines-parts s lines row byte none =
-    let parts = first-none (shapeQuestions s) (linesLength s lines ∷ lineArguments s row byte) refl none in
-    let one = first-yes _ _ 6 (lit< tt) (parts .1) in
-    (parts .0, eqb-true lines (s .rows) (one .0), one .1)
-
--- ---- a row of cells that are taken, by the sizes in hand
-module _ {s : Shape} {cells : ℕ} (p : CellsTaken s cells) where
-  pub cells-bound : cells ≤ 1044480
-  unfolding cellCount
-  cells-bound = omega (arith, p .counted, cells-high s (p .taken))
-
-  pub row-within : (z : Sizes) → z ≡ sizesOf s → (row : ℕ) → row < s .rows → row * z .columns + z .columns ≤ cells
-  unfolding cellCount
-  row-within z e row h = rw (ap (λ z. z .columns) e, p .counted) (row-fits row (s .rows) (columns s) h)
+pub line-reads : (s : Shape) (lines row byte : ℕ) → firstNo (linesQuestions s lines (lineArguments s row byte)) ≡ 0 → Sets s lines row byte
+line-reads s lines row byte none =
+    let p = call-passed s [] (lengthsQuestion (lines ∷ []) (linesWanted s)) (lineArguments s row byte) refl (lit< tt) none in
+    let seven = row-reads s row (lineQuestion byte ∷ []) (p .arguments) in
+    record {
+      taken = p .taken;
+      counted = lines-counted s lines (p .lent);
+      place = seven .0;
+      within = leb-true byte 1 (first-yes _ 0 16 (lit< tt) (seven .1) .0);
+    }

@@ -1,44 +1,55 @@
--- The questions of the calls on the cells and on the lines, in document 01's order.
-use mathlib.Core.List.{List, [], _∷_, _++_}
+-- The questions of the calls on the cells and on the lines, in document 01's order: what each asks of its arguments, 6 on the buffers among them first,
+-- and all that it asks, by the number of cells or lines that it is lent.
+use mathlib.Core.List.{List, [], _∷_}
 use Prim.Native.Nat.{ℕ}
 use lib.ListN.{length}
-use Rattle.parity.specs.Shape.{columns}
-use Rattle.parity.specs.Questions.{Question, callQuestions, lengthQuestion, placeQuestion, levelsQuestion, lineQuestion, soundQuestion}
+use Rattle.parity.specs.Shape.{levels, columns}
+use Rattle.parity.specs.Questions.{Question, callQuestions, lengthsQuestion, placeQuestion, levelsQuestion, lineQuestion, soundQuestion}
 use Rattle.parity.specs.declared.Shape.{Shape}
-use Rattle.array_memory.specs.Memory.{cellsLength, linesLength}
+use Rattle.array_memory.specs.Lengths.{cellsWanted, linesWanted}
 
--- 1 to 5, 6 on the cells, and what else a call on the cells asks
+-- 1 to 5, 6 on the cells, and what a call on the cells asks of its arguments
 abbrev pub cellsQuestions : Shape → ℕ → List Question → List Question
-cellsQuestions s cells own = callQuestions s [] (cellsLength s cells ∷ []) own
+cellsQuestions s cells arguments = callQuestions s [] (lengthsQuestion (cells ∷ []) (cellsWanted s)) arguments
 
--- what a drift asks of its arguments: 7 on the row and the column, 8 on the level
+-- the same with 6 on the lines
+abbrev pub linesQuestions : Shape → ℕ → List Question → List Question
+linesQuestions s lines arguments = callQuestions s [] (lengthsQuestion (lines ∷ []) (linesWanted s)) arguments
+
+-- ---- sound and read: 6 on the k bytes out, by their number, and 7 on the row
+
+abbrev pub soundArguments : Shape → ℕ → List Question
+soundArguments s row = placeQuestion row (s .rows) ∷ []
+
+abbrev pub readArguments : Shape → ℕ → ℕ → List Question
+readArguments s row out = lengthsQuestion (out ∷ []) (s .width ∷ []) ∷ placeQuestion row (s .rows) ∷ []
+
+-- ---- drift: 7 on the row and the column, 8 on the level
+
 abbrev pub driftArguments : Shape → ℕ → ℕ → ℕ → List Question
-driftArguments s row column level = placeQuestion row (s .rows) ∷ placeQuestion column (columns s) ∷ levelsQuestion s (level ∷ []) ∷ []
+driftArguments s row column level = placeQuestion row (s .rows) ∷ placeQuestion column (columns s) ∷ levelsQuestion (levels s) (level ∷ []) ∷ []
 
--- what setting a line asks of its arguments: 7 on the row, 16 on the byte
+-- ---- line: 7 on the row, 16 on the byte
+
 abbrev pub lineArguments : Shape → ℕ → ℕ → List Question
 lineArguments s row byte = placeQuestion row (s .rows) ∷ lineQuestion byte ∷ []
 
--- 1 to 5, 6 on the lines, and those
-abbrev pub lineQuestions : Shape → ℕ → ℕ → ℕ → List Question
-lineQuestions s lines row byte = callQuestions s [] (linesLength s lines ∷ []) (lineArguments s row byte)
-
--- 6, on the n cells of a finished row
-abbrev pub finishedLength : Shape → ℕ → Question
-finishedLength s finished = lengthQuestion finished (columns s)
-
--- what programming asks of its arguments: 6 on the levels' number, 7 on the row, 8 on the levels
-abbrev pub rowArguments : Shape → ℕ → ℕ → List Question
-rowArguments s given row = lengthQuestion given (s .width) ∷ placeQuestion row (s .rows) ∷ []
+-- ---- program: 6 on the k levels, 7 on the row, 8 on the levels; ask: 6 on the n bytes for the finished row too
 
 abbrev pub programArguments : Shape → ℕ → List ℕ → List Question
-programArguments s row given = rowArguments s (length given) row ++ levelsQuestion s given ∷ []
+programArguments s row given =
+    lengthsQuestion (length given ∷ []) (s .width ∷ []) ∷ placeQuestion row (s .rows) ∷ levelsQuestion (levels s) given ∷ []
 
--- what ask asks of its arguments: 6 on the buffer for the finished row, and what programming asks
-abbrev pub askArguments : Shape → ℕ → List ℕ → List ℕ → List Question
-askArguments s row given buffer = finishedLength s (length buffer) ∷ programArguments s row given
+abbrev pub askArguments : Shape → ℕ → List ℕ → ℕ → List Question
+askArguments s row given buffer =
+    lengthsQuestion (length given ∷ buffer ∷ []) (s .width ∷ columns s ∷ []) ∷ placeQuestion row (s .rows) ∷ levelsQuestion (levels s) given ∷ []
 
--- what commit asks of its arguments: 6 on the finished row's length, 7 on the row, 8 on the cells to be written, and then 17 on them
+-- ---- commit: 6 on the n cells of the finished row, 7 on the row, 8 on the cells to be written, and then 17 on them
+
 abbrev pub commitArguments : Shape → ℕ → List ℕ → List Question
 commitArguments s row finished =
-    finishedLength s (length finished) ∷ placeQuestion row (s .rows) ∷ levelsQuestion s finished ∷ soundQuestion s finished ∷ []
+    lengthsQuestion (length finished ∷ []) (columns s ∷ [])
+    ∷ placeQuestion row (s .rows)
+    ∷ levelsQuestion (levels s) finished
+    ∷ soundQuestion s finished
+    ∷ []

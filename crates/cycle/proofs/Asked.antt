@@ -1,61 +1,49 @@
 -- On a shape taken and a memory whose buffers have their lengths the first no to a call is that to its own arguments. Assumes nothing.
-use mathlib.Core.Path.{_≡_, refl, sym, ap, _∙_}
-use mathlib.Core.Bool.{cond}
+use mathlib.Core.Path.{_≡_, ap, _∙_}
+use mathlib.Core.Bool.{true}
 use mathlib.Core.List.{List, [], _∷_, _++_}
 use Prim.Native.Nat.{ℕ, _<_}
-use lib.Dec.{ltb}
+use lib.Dec.{lit<}
 use lib.ListN.{length}
-use borrow.Author.Tests.{eq-eqb, lt-ltb}
-use Rattle.parity.specs.Questions.{Question, firstNo, Taken, callQuestions}
+use Rattle.parity.specs.Questions.{Question, firstNo, Taken, skipQuestion, lengthsQuestion}
 use Rattle.parity.specs.declared.Shape.{Shape}
-use Rattle.shape.proofs.Refusals.{taken-rest}
-use Rattle.array_memory.specs.Memory.{Sized, cellsLength, linesLength, rowsQuestions, memoryQuestions}
-use Rattle.array_questions.specs.Questions.{cellsQuestions, lineArguments, lineQuestions}
-use Rattle.array_questions.proofs.Asked.{cells-rest}
+use Rattle.parity.proofs.Taken.{first-yes}
+use borrow.Author.Tests.{ltb-true}
+use Rattle.shape.proofs.Refusals.{call-rest}
+use Rattle.array_memory.specs.Lengths.{cellsWanted, linesWanted, rowsWanted, allWanted, Sized, rowsLengths, allLengths}
+use Rattle.array_memory.proofs.Asked.{cells-lent, lines-lent, rows-lent, all-lent}
+use Rattle.array_questions.specs.Questions.{cellsQuestions, linesQuestions}
 use Rattle.cycle.specs.Record.{cycleQuestion}
 use Rattle.cycle.specs.Calls.{State, clearQuestions, startArguments, startQuestions, stepArguments, lentQuestions, stepQuestions}
 
--- a number of digits to skip that is below b
-pub skip-asked :
-    (s : Shape) → Taken s → (z : ℕ) → z < s .digits → (lengths own : List Question)
-    → firstNo (callQuestions s (startArguments s z) lengths own) ≡ firstNo (callQuestions s [] lengths own)
-skip-asked s t z h lengths own =
-    taken-rest s t (startArguments s z ++ lengths ++ own)
-    ∙ ap (λ b. cond b (firstNo (lengths ++ own)) 15) (lt-ltb z (s .digits) h)
-    ∙ sym (taken-rest s t (lengths ++ own))
+-- a number of digits to skip that is taken is below b
+pub skip-below : (s : Shape) (z : ℕ) → firstNo (startArguments s z) ≡ 0 → z < s .digits
+skip-below s z e = ltb-true z (s .digits) (first-yes (skipQuestion s z .holds) 0 15 (lit< tt) e .0)
 
 module _ (s : Shape) (t : Taken s) (st : State) (lent : Sized s (st .memory)) where
-  rows-rest : (own : List Question) → firstNo (rowsQuestions s (st .memory) ++ own) ≡ firstNo own
-  rows-rest own = let rows = lent .rows in rw (eq-eqb _ _ (rows .flags), eq-eqb _ _ (rows .totals), eq-eqb _ _ (rows .counters)) refl
-
-  memory-rest : (own : List Question) → firstNo (memoryQuestions s (st .memory) ++ own) ≡ firstNo own
-  memory-rest own =
-      let cells : List Question = cellsLength s (length (st .memory .cells)) ∷ linesLength s (length (st .memory .lines)) ∷ own in
-      rows-rest cells ∙ rw (eq-eqb _ _ (lent .cells), eq-eqb _ _ (lent .lines)) refl
-
-  pub clear-asked : firstNo (clearQuestions s (st .memory)) ≡ 0
-  clear-asked = taken-rest s t (memoryQuestions s (st .memory) ++ []) ∙ memory-rest []
+  pub clear-asked : firstNo (clearQuestions s (allLengths (st .memory))) ≡ 0
+  clear-asked = call-rest s [] (lengthsQuestion (allLengths (st .memory)) (allWanted s)) [] t (all-lent s (st .memory) lent)
 
   -- the first no to a start is that to its number of digits
-  pub start-asked : (z : ℕ) → firstNo (startQuestions s (st .memory) z) ≡ firstNo (startArguments s z)
-  start-asked z =
-      taken-rest s t (startArguments s z ++ rowsQuestions s (st .memory) ++ [])
-      ∙ ap (λ n. cond (ltb z (s .digits)) n 15) (rows-rest [])
+  pub start-asked : (z : ℕ) → firstNo (startQuestions s z (rowsLengths (st .memory))) ≡ firstNo (startArguments s z)
+  start-asked z = call-rest s (startArguments s z) (lengthsQuestion (rowsLengths (st .memory)) (rowsWanted s)) [] t (rows-lent s (st .memory) lent)
 
-  -- a call on the cells
+  -- a call on the cells, and one on the lines
   pub cells-asked : (own : List Question) → firstNo (cellsQuestions s (length (st .memory .cells)) own) ≡ firstNo own
-  cells-asked own = cells-rest s (length (st .memory .cells)) (record { taken = t; counted = lent .cells }) own
+  cells-asked own = call-rest s [] (lengthsQuestion (length (st .memory .cells) ∷ []) (cellsWanted s)) own t (cells-lent s (st .memory) lent)
 
-  -- a line setting
-  pub line-asked : (row byte : ℕ) → firstNo (lineQuestions s (length (st .memory .lines)) row byte) ≡ firstNo (lineArguments s row byte)
-  line-asked row byte =
-      taken-rest s t (linesLength s (length (st .memory .lines)) ∷ lineArguments s row byte) ∙ rw (eq-eqb _ _ (lent .lines)) refl
+  pub lines-asked : (own : List Question) → firstNo (linesQuestions s (length (st .memory .lines)) own) ≡ firstNo own
+  lines-asked own = call-rest s [] (lengthsQuestion (length (st .memory .lines) ∷ []) (linesWanted s)) own t (lines-lent s (st .memory) lent)
 
-  -- a call on the memory and match bytes
+  -- a call on the memory and match bytes, with further numbers and with 9
   pub lent-asked :
-      (matches : List ℕ) (own : List Question)
-      → firstNo (callQuestions s [] (lentQuestions s (st .memory) matches) own) ≡ firstNo (stepArguments s matches ++ own)
-  lent-asked matches own = taken-rest s t (lentQuestions s (st .memory) matches ++ own) ∙ memory-rest (stepArguments s matches ++ own)
+      (numbers : List Question) (matches : ℕ)
+      → firstNo (lentQuestions s numbers (allLengths (st .memory)) matches) ≡ firstNo (numbers ++ stepArguments s matches)
+  lent-asked numbers matches =
+      call-rest s numbers (lengthsQuestion (allLengths (st .memory)) (allWanted s)) (stepArguments s matches) t (all-lent s (st .memory) lent)
 
-  pub step-asked : (matches : List ℕ) → firstNo (stepQuestions s st matches) ≡ firstNo (stepArguments s matches ++ cycleQuestion s (st .cycle) ∷ [])
-  step-asked matches = lent-asked matches (cycleQuestion s (st .cycle) ∷ [])
+  pub step-asked :
+      (matches : List ℕ) → firstNo (stepQuestions s st matches) ≡ firstNo (stepArguments s (length matches) ++ cycleQuestion s (st .cycle) ∷ [])
+  step-asked matches =
+      call-rest s [] (lengthsQuestion (allLengths (st .memory)) (allWanted s)) (stepArguments s (length matches) ++ cycleQuestion s (st .cycle) ∷ []) t
+      (all-lent s (st .memory) lent)

@@ -28,3 +28,9 @@ module _ (questions : List Question) (bytes : List ℕ) (mem : Memory) (cycle : 
       ∙ ap₂ (λ new made. giving (accepted 0) new (stateOf made next)) bytes-same same
       ∙ ap (λ next. giving (accepted 0) left (stateOf last next)) same-cycle
       ∙ ap (λ r. changing r left last) (sym e)
+
+-- what an act gives, with the record that is handed back
+pub act-done :
+    {call : Result State} {bytes : List ℕ} {last : Memory} {cycle : Cycle} {r : Changed} → call ≡ giving (accepted 0) bytes (stateOf last cycle)
+    → r ≡ doneWith cycle → call ≡ changing r bytes last
+act-done {bytes = bytes} {last = last} e made = e ∙ ap (λ r. changing r bytes last) (sym made)

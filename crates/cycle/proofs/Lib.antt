@@ -4,4 +4,4 @@ pub mod CycleRecord
 pub mod Steps
 pub mod Given
 pub mod MatrixPart
-pub mod Runs
+pub mod Fresh

@@ -8,7 +8,7 @@ use lib.Dec.{eqb, ltb}
 use lib.ListN.{length, getD, take, replicate, length-replicate, getD-replicate}
 use lib.Seq.{take-all}
 use borrow.Author.Tests.{lt-ltb}
-use Rattle.parity.specs.Shape.{levels, columns}
+use Rattle.parity.specs.Shape.{levels, columns, cellCount}
 use Rattle.parity.specs.Matrix.{cycleSteps}
 use Rattle.parity.specs.Claims.{Below}
 use Rattle.parity.specs.Questions.{Taken}
@@ -25,12 +25,12 @@ use Rattle.parity.specs.Questions.{ifTaken}
 use Rattle.shape.specs.Answers.{accepted, refused, giving, calling}
 use Rattle.array_memory.specs.Geometry.{rowAt, rowMatch, matchBytes}
 use Rattle.array_memory.specs.Blocks.{blocksOf, blocks, blockTotals}
-use Rattle.array_memory.specs.Memory.{Memory, withArray, noMemory, RowsSized, Sized, cellCount}
+use Rattle.array_memory.specs.Lengths.{RowsSized, Sized}
+use Rattle.array_memory.specs.Memory.{Memory, withArray, noMemory}
 use Rattle.cycle_place.specs.Places.{entryAt}
 use Rattle.cycle_lookup.specs.Lookup.{entryMatches, countedRows, flaggedRows, totalledBlocks, resetRows, lookedUp}
 use Rattle.cycle.specs.Record.{nextEntry, cycleAt, isNext}
 use Rattle.cycle.specs.Calls.{State, zeroRows, cleared, fresh, started, startCall, stepMatches, steppedMemory, stepped, stepCall}
-use Rattle.cycle.specs.Run.{start, step, after}
 use Rattle.cycle.proofs.Asked.{start-asked, step-asked}
 
 -- the tally of row i
@@ -115,9 +115,9 @@ module _ (s : Shape) (st : State) where
         }
 
     -- a start is taken where it skips less than all digits
-    pub start-state : Taken s → (z : ℕ) → after s st (start z) ≡ cond (ltb z (s .digits)) (started s st z) st
+    pub start-state : Taken s → (z : ℕ) → startCall s st z .state ≡ cond (ltb z (s .digits)) (started s st z) st
     unfolding startCall calling
-    start-state t z = rw (after, start-asked s t st lent z) (both (ltb z (s .digits)))
+    start-state t z = rw (start-asked s t st lent z) (both (ltb z (s .digits)))
       where
         both :
             (a : Bool)
@@ -126,20 +126,20 @@ module _ (s : Shape) (st : State) where
         both true = refl
         both false = refl
 
-    pub start-done : Taken s → (z : ℕ) → z < s .digits → after s st (start z) ≡ started s st z
+    pub start-done : Taken s → (z : ℕ) → z < s .digits → startCall s st z .state ≡ started s st z
     start-done t z h = start-state t z ∙ ap (λ b. cond b (started s st z) st) (lt-ltb z (s .digits) h)
 
     -- a step is taken where the buffer has its length and the record a lookup to come
     pub step-state :
         Taken s → (matches : List ℕ)
-        → after s st (step matches) ≡ cond (eqb (length matches) (s .rows) && isNext s (st .cycle)) (stepped s st) st
+        → stepCall s st matches .state ≡ cond (eqb (length matches) (s .rows) && isNext s (st .cycle)) (stepped s st) st
     unfolding stepCall calling
-    step-state t matches = rw (after, step-asked s t st lent matches) (both (eqb (length matches) (s .rows)) (isNext s (st .cycle)))
+    step-state t matches = rw (step-asked s t st lent matches) (both (eqb (length matches) (s .rows)) (isNext s (st .cycle)))
       where
         both :
             (a b : Bool)
-            → ifTaken (cond a (cond b 0 9) 6) (giving (accepted 0) (stepMatches s st) (stepped s st))
-            (giving (refused 0 (cond a (cond b 0 9) 6)) matches st) .state
+            → ifTaken (cond (a && true) (cond b 0 9) 6) (giving (accepted 0) (stepMatches s st) (stepped s st))
+            (giving (refused 0 (cond (a && true) (cond b 0 9) 6)) matches st) .state
             ≡ cond (a && b) (stepped s st) st
         both true true = refl
         both true false = refl

@@ -4,11 +4,13 @@ use mathlib.Core.List.{List, [], _∷_, _++_}
 use Prim.Native.Nat.{ℕ, suc}
 use lib.ListN.{length, replicate}
 use Rattle.parity.specs.Codeword.{encode}
-use Rattle.parity.specs.Questions.{Question, callQuestions, skipQuestion, lengthQuestion}
+use Rattle.parity.specs.Shape.{cellCount}
+use Rattle.parity.specs.Questions.{Question, callQuestions, skipQuestion, lengthsQuestion}
 use Rattle.parity.specs.declared.Shape.{Shape}
 use Rattle.shape.specs.Answers.{Result, accepted, giving, calling}
 use Rattle.array_memory.specs.Blocks.{blocks}
-use Rattle.array_memory.specs.Memory.{Memory, withArray, withRows, noMemory, cellCount, rowsQuestions, memoryQuestions}
+use Rattle.array_memory.specs.Lengths.{rowsWanted, allWanted, rowsLengths, allLengths}
+use Rattle.array_memory.specs.Memory.{Memory, withArray, withRows, noMemory}
 use Rattle.array_questions.specs.Questions.{cellsQuestions, programArguments, commitArguments}
 use Rattle.array.specs.Calls.{rowWritten}
 use Rattle.cycle_lookup.specs.Lookup.{entryMatches, lookedUp}
@@ -23,6 +25,10 @@ pub record State : Type 0 where
 abbrev pub stateOf : Memory → Cycle → State
 stateOf memory cycle = record { memory = memory; cycle = cycle }
 
+-- what a call on the memory alone gives of a state: it leaves the record, which can't know
+abbrev pub onMemory : (Memory → Result Memory) → State → Result State
+onMemory call st = let r = call (st .memory) in giving (r .said) (r .bytes) (stateOf (r .state) (st .cycle))
+
 -- ---- clear
 
 -- counters, flags and totals all 0
@@ -33,13 +39,13 @@ zeroRows s mem = withRows (replicate (s .rows) 0) (replicate (s .rows) 0) (repli
 unfoldable pub cleared : Shape → Memory → Memory
 cleared s mem = withArray (replicate (cellCount s) 0) (replicate (s .rows) 0) (zeroRows s mem)
 
--- 6 on the whole memory
-abbrev pub clearQuestions : Shape → Memory → List Question
-clearQuestions s mem = callQuestions s [] (memoryQuestions s mem) []
+-- 6 on the whole memory, by its lengths
+abbrev pub clearQuestions : Shape → List ℕ → List Question
+clearQuestions s lent = callQuestions s [] (lengthsQuestion lent (allWanted s)) []
 
 -- cells, lines, counters, flags and totals all 0, record idle with count 0
 unfoldable pub clearCall : Shape → State → Result State
-clearCall s st = calling (clearQuestions s (st .memory)) [] st (giving (accepted 0) [] (stateOf (cleared s (st .memory)) idle))
+clearCall s st = calling (clearQuestions s (allLengths (st .memory))) [] st (giving (accepted 0) [] (stateOf (cleared s (st .memory)) idle))
 
 -- the fresh array: what a clear leaves
 unfoldable pub fresh : Shape → State
@@ -67,30 +73,30 @@ commitCall s st row finished =
 abbrev pub startArguments : Shape → ℕ → List Question
 startArguments s z = skipQuestion s z ∷ []
 
--- .. and then 6 on counters, flags and totals
-abbrev pub startQuestions : Shape → Memory → ℕ → List Question
-startQuestions s mem z = callQuestions s (startArguments s z) (rowsQuestions s mem) []
+-- .. and then 6 on counters, flags and totals, by their lengths
+abbrev pub startQuestions : Shape → ℕ → List ℕ → List Question
+startQuestions s z lent = callQuestions s (startArguments s z) (lengthsQuestion lent (rowsWanted s)) []
 
 -- counters, flags and totals 0, record open, count 0, its opening next, also when a cycle was open
 unfoldable pub started : Shape → State → ℕ → State
 started s st z = stateOf (zeroRows s (st .memory)) (cycleAt z s 0)
 
 unfoldable pub startCall : Shape → State → ℕ → Result State
-startCall s st z = calling (startQuestions s (st .memory) z) [] st (giving (accepted 0) [] (started s st z))
+startCall s st z = calling (startQuestions s z (rowsLengths (st .memory))) [] st (giving (accepted 0) [] (started s st z))
 
 -- ---- step
 
--- what a step asks of its arguments: 6 on the buffer for match bytes
-abbrev pub stepArguments : Shape → List ℕ → List Question
-stepArguments s matches = lengthQuestion (length matches) (s .rows) ∷ []
+-- what a step asks of its arguments: 6 on the buffer for match bytes, by its length
+abbrev pub stepArguments : Shape → ℕ → List Question
+stepArguments s matches = lengthsQuestion (matches ∷ []) (s .rows ∷ []) ∷ []
 
--- 6 on the memory and the match bytes
-abbrev pub lentQuestions : Shape → Memory → List ℕ → List Question
-lentQuestions s mem matches = memoryQuestions s mem ++ stepArguments s matches
+-- 6 on the whole memory, by its lengths, and on the match bytes, after further numbers
+abbrev pub lentQuestions : Shape → List Question → List ℕ → ℕ → List Question
+lentQuestions s numbers lent matches = callQuestions s numbers (lengthsQuestion lent (allWanted s)) (stepArguments s matches)
 
 -- .. then 9
 abbrev pub stepQuestions : Shape → State → List ℕ → List Question
-stepQuestions s st matches = callQuestions s [] (lentQuestions s (st .memory) matches) (cycleQuestion s (st .cycle) ∷ [])
+stepQuestions s st matches = lentQuestions s [] (allLengths (st .memory)) (length matches) ++ cycleQuestion s (st .cycle) ∷ []
 
 -- the match bytes of the entry that the record stands at
 unfoldable pub stepMatches : Shape → State → List ℕ

@@ -1,24 +1,20 @@
 // The calls that have the cycle record: clear, program, commit, start and step. A refused call hands the record back as it was
-// given and leaves every buffer as it was.
+// given and leaves every buffer as it was. Below clear, start and step stand their acts (`.._lent`): what the call does where its
+// questions have been passed; those of program and commit are `write_row` and `put_row`.
 use super::Changed;
 use super::Cycle;
+use super::questions::check_clear;
+use super::questions::check_lent;
+use super::questions::check_start;
 use acam::matrix::matrix_of;
-use array::change::write_row;
-use array::commit::put_row;
-use array_memory::memory::check_matches;
-use array_memory::memory::check_memory;
-use array_memory::memory::check_rows;
-use array_memory::memory::check_skip;
-use array_questions::check_cells;
+use array::write::put_row;
+use array::write::write_row;
 use array_questions::check_commit;
 use array_questions::check_program;
+use cycle_lookup::column::make_test;
 use cycle_lookup::opening::make_opening;
-use cycle_lookup::tests::make_test;
 use cycle_passes::rows::reset_rows;
 use cycle_place::walk::Located;
-use cycle_place::walk::Next;
-use cycle_place::walk::advance;
-use cycle_place::walk::first;
 use parity::Shape;
 use shape::answer::Outcome;
 use shape::byte::fill;
@@ -26,13 +22,19 @@ use shape::sizes::Checked;
 use shape::sizes::Sizes;
 use shape::sizes::check_shape;
 ghost use mathlib.Core.Path.{_≡_};
-ghost use mathlib.Core.List.{[]};
-ghost use Rattle.parity.specs.Questions.{firstNo, callQuestions};
+ghost use mathlib.Core.List.{[], _∷_};
+ghost use lib.ListN.{length};
+ghost use Rattle.shape.specs.Answers.{accepted, giving};
 ghost use Rattle.shape.specs.Lent.{was, left};
-ghost use Rattle.shape.specs.Shapes.{sizesOf};
-ghost use Rattle.array_memory.specs.Memory.{Memory, withCells, withRows, withAll, noMemory};
-ghost use Rattle.cycle.specs.Calls.{stateOf, clearCall, programCall, commitCall, startCall, lentQuestions, stepCall};
+ghost use Rattle.shape.specs.Shapes.{Passed};
+ghost use Rattle.array_memory.specs.Buffers.{wasCells, leftCells, wasRows, leftRows, wasAll, leftAll};
+ghost use Rattle.array_memory.specs.Lengths.{rowsLengths, allLengths};
+ghost use Rattle.array_memory.specs.Memory.{Memory, withRows, withAll, noMemory};
+ghost use Rattle.cycle.specs.declared.Cycle.{Cycle as CycleRecord};
+ghost use Rattle.cycle.specs.Calls.{stateOf, clearQuestions, clearCall, programCall, commitCall, startQuestions, startCall};
+ghost use Rattle.cycle.specs.Calls.{lentQuestions, stepCall};
 ghost use Rattle.cycle.specs.Methods.{changing, refusedWith, doneWith};
+ghost use Rattle.cycle.specs.Record.{idle};
 
 // A refusal: the record as it was given.
 pub fn refused(cycle: Cycle, number: u8) -> Changed
@@ -53,6 +55,43 @@ pub fn done(cycle: Cycle) -> Changed
     }
 }
 
+// Cells, lines, counters, flags and totals all 0: with the idle record, the fresh array.
+pub fn clear_lent(
+    shape: Shape,
+    sizes: Sizes,
+    cells: &mut [u8],
+    lines: &mut [u8],
+    counters: &mut [u8],
+    flags: &mut [u8],
+    totals: &mut [u8],
+)
+    requires { ⌜ Passed (clearQuestions shape (allLengths (withAll (now cells) (now lines) (now counters) (now flags) (now totals) noMemory)))
+        shape sizes ⌝ }
+    ensures { λ _. ⌜ ((mem : Memory) (cycle : CycleRecord) → clearCall shape (stateOf (wasAll cells lines counters flags totals mem) cycle)
+        ≡ giving (accepted 0) [] (stateOf (leftAll cells lines counters flags totals mem) idle)) ⌝ }
+{
+    fill(cells, 0);
+    fill(lines, 0);
+    reset_rows(counters, flags, totals);
+}
+
+// Counters, flags and totals 0, and the open record of a start.
+pub fn start_lent(
+    shape: Shape,
+    sizes: Sizes,
+    skip: usize,
+    counters: &mut [u8],
+    flags: &mut [u8],
+    totals: &mut [u8],
+) -> Cycle
+    requires { ⌜ Passed (startQuestions shape skip (rowsLengths (withRows (now counters) (now flags) (now totals) noMemory))) shape sizes ⌝ }
+    ensures { λ r. ⌜ ((mem : Memory) (cycle : CycleRecord) → startCall shape (stateOf (wasRows counters flags totals mem) cycle) skip
+        ≡ giving (accepted 0) [] (stateOf (leftRows counters flags totals mem) r)) ⌝ }
+{
+    reset_rows(counters, flags, totals);
+    Cycle::opening(skip)
+}
+
 impl Cycle {
     // Clear: cells, lines, counters, flags and totals all 0, record idle: the fresh array.
     pub fn clear(
@@ -64,11 +103,10 @@ impl Cycle {
         flags: &mut [u8],
         totals: &mut [u8],
     ) -> Changed
-        ensures { λ r. ⌜ ((mem : Memory) → clearCall shape (stateOf (withAll (was cells) (was lines) (was counters) (was flags) (was totals) mem) self)
-            ≡ changing r [] (withAll (left cells) (left lines) (left counters) (left flags) (left totals) mem)) ⌝ }
+        ensures { λ r. ⌜ ((mem : Memory) → clearCall shape (stateOf (wasAll cells lines counters flags totals mem) self)
+            ≡ changing r [] (leftAll cells lines counters flags totals mem)) ⌝ }
     {
-        match check_memory(
-            check_shape(shape),
+        match check_clear(
             shape,
             cells.len(),
             lines.len(),
@@ -77,10 +115,8 @@ impl Cycle {
             totals.len(),
         ) {
             Checked::Refused(number) => refused(self, number),
-            Checked::Taken(_) => {
-                fill(cells, 0);
-                fill(lines, 0);
-                reset_rows(counters, flags, totals);
+            Checked::Taken(sizes) => {
+                clear_lent(shape, sizes, cells, lines, counters, flags, totals);
                 done(Cycle::IDLE)
             }
         }
@@ -88,10 +124,10 @@ impl Cycle {
 
     // Program: writes a row of k levels with its check cells; the record becomes idle.
     pub fn program(self, shape: Shape, cells: &mut [u8], row: usize, given: &[u8]) -> Changed
-        ensures { λ r. ⌜ ((mem : Memory) → programCall shape (stateOf (withCells (was cells) mem) self) row (was given)
-            ≡ changing r [] (withCells (left cells) mem)) ⌝ }
+        ensures { λ r. ⌜ ((mem : Memory) → programCall shape (stateOf (wasCells cells mem) self) row (was given)
+            ≡ changing r [] (leftCells cells mem)) ⌝ }
     {
-        match check_program(check_cells(shape, cells.len()), shape, row, given) {
+        match check_program(shape, cells.len(), row, given) {
             Checked::Refused(number) => refused(self, number),
             Checked::Taken(sizes) => {
                 write_row(shape, sizes, cells, row, given);
@@ -102,14 +138,13 @@ impl Cycle {
 
     // Commit: writes a finished row of n cells, as ask gives it; the record becomes idle.
     pub fn commit(self, shape: Shape, cells: &mut [u8], row: usize, finished: &[u8]) -> Changed
-        ensures { λ r. ⌜ ((mem : Memory) → commitCall shape (stateOf (withCells (was cells) mem) self) row (was finished)
-            ≡ changing r [] (withCells (left cells) mem)) ⌝ }
+        ensures { λ r. ⌜ ((mem : Memory) → commitCall shape (stateOf (wasCells cells mem) self) row (was finished)
+            ≡ changing r [] (leftCells cells mem)) ⌝ }
     {
         match check_commit(shape, cells.len(), row, finished) {
             Checked::Refused(number) => refused(self, number),
             Checked::Taken(sizes) => {
-                let columns = sizes.columns;
-                put_row(columns, cells, row, finished);
+                put_row(shape, sizes, cells, row, finished);
                 done(Cycle::IDLE)
             }
         }
@@ -125,20 +160,13 @@ impl Cycle {
         flags: &mut [u8],
         totals: &mut [u8],
     ) -> Changed
-        ensures { λ r. ⌜ ((mem : Memory) → startCall shape (stateOf (withRows (was counters) (was flags) (was totals) mem) self) skip
-            ≡ changing r [] (withRows (left counters) (left flags) (left totals) mem)) ⌝ }
+        ensures { λ r. ⌜ ((mem : Memory) → startCall shape (stateOf (wasRows counters flags totals mem) self) skip
+            ≡ changing r [] (leftRows counters flags totals mem)) ⌝ }
     {
-        match check_rows(
-            check_skip(shape, skip),
-            shape,
-            counters.len(),
-            flags.len(),
-            totals.len(),
-        ) {
+        match check_start(shape, skip, counters.len(), flags.len(), totals.len()) {
             Checked::Refused(number) => refused(self, number),
-            Checked::Taken(_) => {
-                reset_rows(counters, flags, totals);
-                done(Cycle::opening(skip))
+            Checked::Taken(sizes) => {
+                done(start_lent(shape, sizes, skip, counters, flags, totals))
             }
         }
     }
@@ -155,11 +183,10 @@ impl Cycle {
         totals: &mut [u8],
         matches: &mut [u8],
     ) -> Changed
-        ensures { λ r. ⌜ ((mem : Memory)
-            → stepCall shape (stateOf (withAll (was cells) (was lines) (was counters) (was flags) (was totals) mem) self) (was matches)
-            ≡ changing r (left matches) (withAll (was cells) (was lines) (left counters) (left flags) (left totals) mem)) ⌝ }
+        ensures { λ r. ⌜ ((mem : Memory) → stepCall shape (stateOf (wasAll cells lines counters flags totals mem) self) (was matches)
+            ≡ changing r (left matches) (leftAll cells lines counters flags totals mem)) ⌝ }
     {
-        match check_matches(
+        match check_lent(
             check_shape(shape),
             shape,
             cells.len(),
@@ -177,7 +204,7 @@ impl Cycle {
     }
 
     // A step on buffers of their lengths: question 9, and then the lookup. The check matrix is made once for both.
-    fn step_lent(
+    pub fn step_lent(
         self,
         shape: Shape,
         sizes: Sizes,
@@ -188,34 +215,31 @@ impl Cycle {
         totals: &mut [u8],
         matches: &mut [u8],
     ) -> Changed
-        requires { ⌜ (firstNo (callQuestions shape []
-            (lentQuestions shape (withAll (now cells) (now lines) (now counters) (now flags) (now totals) noMemory) (now matches)) []) ≡ 0)
-            × (sizes ≡ sizesOf shape) ⌝ }
-        ensures { λ r. ⌜ ((mem : Memory)
-            → stepCall shape (stateOf (withAll (was cells) (was lines) (was counters) (was flags) (was totals) mem) self) (was matches)
-            ≡ changing r (left matches) (withAll (was cells) (was lines) (left counters) (left flags) (left totals) mem)) ⌝ }
+        requires { ⌜ Passed (lentQuestions shape []
+            (allLengths (withAll (now cells) (now lines) (now counters) (now flags) (now totals) noMemory)) (length (now matches))) shape sizes ⌝ }
+        ensures { λ r. ⌜ ((mem : Memory) → stepCall shape (stateOf (wasAll cells lines counters flags totals mem) self) (was matches)
+            ≡ changing r (left matches) (leftAll cells lines counters flags totals mem)) ⌝ }
     {
         let columns = sizes.columns;
         let checks = sizes.checks;
         let matrix = matrix_of(shape, checks);
-        let part = &matrix[..columns];
-        match self.locate(shape, sizes, part) {
+        match self.locate(shape, sizes, &matrix[..columns]) {
             Located::Elsewhere => refused(self, 9),
-            Located::Opening => {
-                let next = self.moved(Next::Place(first(shape, part)));
+            Located::Opening(next) => {
                 make_opening(lines, flags, totals, matches);
-                done(next)
+                done(self.moved(next))
             }
-            Located::At(standing) => {
+            Located::Test(here) => {
                 let place = self.place;
                 let skip = self.skip;
-                let next = self.moved(advance(place, skip, shape, sizes, part, standing));
+                let ends = here.ends;
+                let next = here.next;
                 make_test(
                     place,
                     skip,
                     shape,
                     columns,
-                    standing,
+                    ends,
                     cells,
                     lines,
                     counters,
@@ -223,7 +247,7 @@ impl Cycle {
                     totals,
                     matches,
                 );
-                done(next)
+                done(self.moved(next))
             }
         }
     }

@@ -1,5 +1,6 @@
 // The detection cycle of the sorting head's array: its record, and the calls that need it.
 pub mod calls;
+pub mod questions;
 
 use cycle_place::Place;
 use cycle_place::walk;
@@ -10,15 +11,12 @@ use shape::answer::Outcome;
 use shape::sizes::Sizes;
 ghost use mathlib.Core.Path.{_≡_};
 ghost use mathlib.Core.Bool.{cond};
-ghost use Prim.Native.Nat.{suc, _<_};
+ghost use Prim.Native.Nat.{suc};
 ghost use lib.Dec.{leb};
-ghost use Rattle.parity.specs.Matrix.{matrix as matrixOf, cycleSteps};
-ghost use Rattle.parity.specs.Questions.{Taken};
-ghost use Rattle.parity.specs.Claims.{longestShape};
-ghost use Rattle.shape.specs.Shapes.{sizesOf};
-ghost use Rattle.cycle_place.specs.Walk.{foundAt};
+ghost use Rattle.parity.specs.Claims.{mostSteps};
+ghost use Rattle.cycle_place.specs.Walk.{toldAt, MatrixLent};
 ghost use Rattle.cycle_place.specs.declared.walk.Located.the-variants.{Elsewhere};
-ghost use Rattle.cycle.specs.declared.Phase.the-variants.{Open};
+ghost use Rattle.cycle.specs.Moves.{Movable};
 ghost use Rattle.cycle.specs.Record.{noPlace, openAt, completeAt, recordAt, isOpen, isNext};
 
 pub enum Phase {
@@ -56,6 +54,35 @@ impl Cycle {
         count: 0,
         skip: 0,
     };
+
+    // The limits of questions 1 to 5: ρ is from here ..
+    pub const MIN_RADIX: usize = Sizes::MIN_RADIX;
+
+    // .. to here;
+    pub const MAX_RADIX: usize = Sizes::MAX_RADIX;
+
+    // b is at least this ..
+    pub const MIN_DIGITS: usize = Sizes::MIN_DIGITS;
+
+    // .. and q at most this;
+    pub const MAX_LEVELS: usize = Sizes::MAX_LEVELS;
+
+    // τ is from here ..
+    pub const MIN_ERRORS: usize = Sizes::MIN_ERRORS;
+
+    // .. to here;
+    pub const MAX_ERRORS: usize = Sizes::MAX_ERRORS;
+
+    // k is at least this, and at most what this many check columns carry for τ;
+    pub const MIN_WIDTH: usize = Sizes::MIN_WIDTH;
+
+    pub const MAX_CHECKS: usize = Sizes::MAX_CHECKS;
+
+    // m is from here ..
+    pub const MIN_ROWS: usize = Sizes::MIN_ROWS;
+
+    // .. to here.
+    pub const MAX_ROWS: usize = Sizes::MAX_ROWS;
 
     // The steps of the longest cycle: the opening, and 255 tests for each of the 1,024 ones of the largest check matrix, no
     // digit skipped. No record that a start and accepted steps leave has a larger count.
@@ -108,15 +135,15 @@ impl Cycle {
 
     // Whether some cycle has this many accepted steps.
     pub(crate) fn within_longest(self) -> bool
-        ensures { λ r. ⌜ r ≡ leb (self .count) (cycleSteps 0 longestShape) ⌝ }
+        ensures { λ r. ⌜ r ≡ leb (self .count) mostSteps ⌝ }
     {
         self.count <= Cycle::MAX_COUNT
     }
 
-    // Whether the record stands at the place of its count, with that lookup still to come, and where.
+    // The lookup at the record's place, if the record is open there with that lookup still to come: question 9.
     pub(crate) fn locate(self, shape: Shape, sizes: Sizes, matrix: &[u8]) -> Located
-        requires { ⌜ Taken shape × (sizes ≡ sizesOf shape) × (now matrix ≡ matrixOf shape) ⌝ }
-        ensures { λ r. ⌜ r ≡ cond (isNext shape self) (foundAt shape (self .count) (self .place)) Elsewhere ⌝ }
+        requires { ⌜ MatrixLent shape sizes (now matrix) ⌝ }
+        ensures { λ r. ⌜ r ≡ cond (isNext shape self) (toldAt (self .skip) shape (self .count) (self .place)) Elsewhere ⌝ }
     {
         let place = self.place;
         let skip = self.skip;
@@ -132,7 +159,7 @@ impl Cycle {
 
     // The open record after a lookup, by the place of the next one.
     pub(crate) fn moved(mut self, next: Next) -> Self
-        requires { ⌜ (self .phase ≡ Open) × (self .count < 261121) ⌝ }
+        requires { ⌜ Movable self ⌝ }
         ensures { λ r. ⌜ r ≡ recordAt (self .skip) next (suc (self .count)) ⌝ }
     {
         self.count = self.count + 1;

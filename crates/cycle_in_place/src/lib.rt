@@ -5,7 +5,8 @@ use shape::answer::Outcome;
 ghost use mathlib.Core.Path.{_≡_};
 ghost use Rattle.shape.specs.Answers.{outcomeSays, giving};
 ghost use Rattle.shape.specs.Lent.{was, left};
-ghost use Rattle.array_memory.specs.Memory.{Memory, withAll};
+ghost use Rattle.array_memory.specs.Buffers.{wasAll, leftAll};
+ghost use Rattle.array_memory.specs.Memory.{Memory};
 ghost use Rattle.cycle.specs.Calls.{stateOf, stepCall};
 
 // A step by the record that the controller keeps. The step takes it by value, and what it hands back is stored: of
@@ -20,9 +21,8 @@ pub fn step_in_place(
     totals: &mut [u8],
     matches: &mut [u8],
 ) -> Outcome
-    ensures { λ r. ⌜ ((mem : Memory) →
-        stepCall shape (stateOf (withAll (was cells) (was lines) (was counters) (was flags) (was totals) mem) (was cycle)) (was matches)
-        ≡ giving (outcomeSays r) (left matches) (stateOf (withAll (was cells) (was lines) (left counters) (left flags) (left totals) mem) (left cycle))) ⌝ }
+    ensures { λ r. ⌜ ((mem : Memory) → stepCall shape (stateOf (wasAll cells lines counters flags totals mem) (was cycle)) (was matches)
+        ≡ giving (outcomeSays r) (left matches) (stateOf (leftAll cells lines counters flags totals mem) (left cycle))) ⌝ }
 {
     let before = *cycle;
     let stepped = before.step(shape, cells, lines, counters, flags, totals, matches);

@@ -10,25 +10,24 @@ use lib.ListN.{length, getD, replicate}
 use lib.Seq.{ext-getD}
 use Rattle.parity.specs.Lists.{tabulate}
 use Rattle.parity.specs.Match.{matchByte, lineMatch}
-use Rattle.parity.specs.Shape.{columns}
+use Rattle.parity.specs.Shape.{columns, cellCount}
 use Rattle.parity.specs.Questions.{Taken}
 use Rattle.parity.specs.declared.Shape.{Shape}
 use Rattle.parity.proofs.ListLaws.{length-tabulate, getD-tabulate, tabulate-same, tabulate-constant}
 use Rattle.schedule.specs.Schedule.{Entry, within, opening, testVector}
-use Rattle.schedule.specs.Index.{supportSize, rank, placeIndex, endsAt}
+use Rattle.schedule.specs.Index.{placeIndex}
 use Rattle.schedule.specs.Tally.{counted, flagged, reset}
 use Rattle.schedule.proofs.Cap.{Proper, tests-proper}
 use Rattle.schedule.proofs.Index.{indexClaim}
 use Rattle.schedule.proofs.Lookup.{match-unit}
 use Rattle.schedule.proofs.Opening.{opening-matched}
-use Rattle.schedule.proofs.Ranks.{stands-support}
 use Rattle.array_memory.specs.Blocks.{blockTotals}
 use Rattle.array_memory.specs.Geometry.{rowAt, rowMatch, matchBytes}
-use Rattle.array_memory.specs.Memory.{Memory, cellCount, Sized}
+use Rattle.array_memory.specs.Lengths.{Sized}
+use Rattle.array_memory.specs.Memory.{Memory}
 use Rattle.array_memory.proofs.RowPlaces.{row-cell, row-sized}
-use Rattle.cycle_place.specs.Walk.{Stands, standingAt, testOf}
+use Rattle.cycle_place.specs.Walk.{Stands, testOf}
 use Rattle.cycle_place.specs.declared.Place.{Place}
-use Rattle.cycle_place.specs.declared.walk.Standing.{Standing}
 use Rattle.cycle_lookup.specs.Lookup.{entryMatches, countedRows, flaggedRows, totalledBlocks, resetRows, lookedUp}
 
 -- ---- lists
@@ -52,17 +51,6 @@ module _ (z : ℕ) (s : Shape) (t : Taken s) (p : Place) (stands : Stands z s p)
       let (below, entry) = indexClaim z s t .stands (p .check) (p .digit) (p .column) (p .factor) stands in
       let none : Entry = within 0 0 0 0 in
       subst (Proper s) (entry none) (tests-proper z s t (placeIndex z s (p .check) (p .digit) (p .column) (p .factor)) below none)
-
-  pub test-rank : rank s (p .check) (p .column) < supportSize s (p .check)
-  unfolding supportSize
-  test-rank = stands-support s t (p .check) (p .column) (stands .column) (stands .held) .0
-
-  -- whether rows are flagged after it, by where it stands
-  pub test-ends :
-      (standing : Standing) → standing ≡ standingAt s p
-      → testOf z s p .flags ≡ eqb (suc (standing .rank)) (standing .size) && eqb (suc (p .factor)) (standing .span)
-  unfolding endsAt
-  test-ends standing e = ap (λ r. eqb (suc (r .rank)) (r .size) && eqb (suc (p .factor)) (r .span)) (sym e)
 
 -- ---- the match bytes
 

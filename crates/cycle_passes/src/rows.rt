@@ -4,15 +4,16 @@ use shape::byte::fill;
 use shape::byte::largest;
 use shape::byte::wide;
 ghost use mathlib.Core.Path.{_≡_};
-ghost use Prim.Native.Nat.{ℕ, _*_, _≤_, _<_};
+ghost use Prim.Native.Nat.{ℕ, _≤_, _<_};
 ghost use lib.ListN.{length, getD, replicate};
+ghost use Rattle.shape.specs.Bounds.{Within};
 ghost use Rattle.shape.specs.Lent.{was, left};
-ghost use Rattle.cycle_passes.specs.Passes.{columnMatches, countedBytes, overwrittenBytes};
+ghost use Rattle.cycle_passes.specs.Passes.{columnMatches, countedBytes, overwrittenBytes, ColumnLent, ToCount};
 
 // The match byte of every row for the vector with the input in one column and 0 elsewhere, if all lines are sound: that
 // column alone can say no.
 pub fn match_column(cells: &[u8], columns: usize, column: usize, input: u8, matches: &mut [u8])
-    requires { ⌜ (column < columns) × (length (now matches) * columns ≤ length (now cells)) ⌝ }
+    requires { ⌜ ColumnLent (length (now cells)) columns column (length (now matches)) ⌝ }
     ensures { λ _. ⌜ left matches ≡ columnMatches columns column input (was cells) (length (was matches)) ⌝ }
 {
     let mut at = column;
@@ -31,8 +32,8 @@ pub fn match_column(cells: &[u8], columns: usize, column: usize, input: u8, matc
 // Counters below ρ, as accepted steps leave them, need no remainder. The match bytes of dead lines become 0 in the same pass,
 // and each byte is chosen before its one store, so that the loop is compiled to vector code.
 fn count_below(counters: &mut [u8], lines: &[u8], matches: &mut [u8], radix: u8)
-    requires { ⌜ (length (now matches) ≡ length (now counters)) × (length (now lines) ≡ length (now counters))
-        × ((i : ℕ) → i < length (now counters) → (getD (now counters) i 0 < radix) × (getD (now matches) i 0 ≤ 1)) ⌝ }
+    requires { ⌜ ToCount (now counters) (now lines) (now matches) radix ⌝ }
+    requires { ⌜ ((i : ℕ) → i < length (now counters) → getD (now counters) i 0 < radix) ⌝ }
     ensures muted { λ _. ⌜ left matches ≡ overwrittenBytes (was lines) 0 (was matches) ⌝ }
     ensures counted { λ _. ⌜ left counters ≡ countedBytes radix (was counters) (left matches) ⌝ }
 {
@@ -50,7 +51,8 @@ fn count_below(counters: &mut [u8], lines: &[u8], matches: &mut [u8], radix: u8)
 
 // Any bytes count by their remainders.
 fn count_any(counters: &mut [u8], matches: &[u8], radix: usize)
-    requires { ⌜ (length (now matches) ≡ length (now counters)) × (0 < radix) × (radix ≤ 255) ⌝ }
+    requires { ⌜ length (now matches) ≡ length (now counters) ⌝ }
+    requires { ⌜ Within 1 radix 255 ⌝ }
     ensures { λ _. ⌜ left counters ≡ countedBytes radix (was counters) (was matches) ⌝ }
 {
     let mut i: usize = 0;
@@ -62,8 +64,7 @@ fn count_any(counters: &mut [u8], matches: &[u8], radix: usize)
 
 // Makes the match bytes of dead lines 0, and adds each match byte to its row's counter mod ρ.
 pub fn count_rows(counters: &mut [u8], lines: &[u8], matches: &mut [u8], radix: usize)
-    requires { ⌜ (length (now matches) ≡ length (now counters)) × (length (now lines) ≡ length (now counters)) × ((0 < radix) × (radix ≤ 255))
-        × ((i : ℕ) → i < length (now counters) → getD (now matches) i 0 ≤ 1) ⌝ }
+    requires { ⌜ ToCount (now counters) (now lines) (now matches) radix ⌝ }
     ensures muted { λ _. ⌜ left matches ≡ overwrittenBytes (was lines) 0 (was matches) ⌝ }
     ensures counted { λ _. ⌜ left counters ≡ countedBytes radix (was counters) (left matches) ⌝ }
 {

@@ -1,14 +1,23 @@
--- Only serves the code's own contracts: where a test's place stands in the schedule, and what is found at the place after so many lookups.
+-- Only serves the code's own contracts: where a test's place stands in the schedule, and what a step is told at the place after so many lookups.
+use mathlib.Core.Path.{_≡_}
 use mathlib.Core.Bool.{cond}
-use Prim.Native.Nat.{ℕ, zero, suc}
+use mathlib.Core.List.{List}
+use Prim.Native.Nat.{ℕ, zero, suc, _<_}
+use Rattle.parity.specs.Matrix.{matrix as matrixOf}
+use Rattle.parity.specs.Questions.{Taken}
 use Rattle.parity.specs.declared.Shape.{Shape}
+use Rattle.shape.specs.Shapes.{sizesOf}
+use Rattle.shape.specs.declared.sizes.Sizes.{Sizes}
 use Rattle.schedule.specs.Schedule.{Entry}
-use Rattle.schedule.specs.Index.{IsPlace, supportSize, rank, span, placeIndex, entryOf}
-use Rattle.cycle_place.specs.Places.{isPlaceOf}
+use Rattle.schedule.specs.Index.{IsPlace, supportSize, rank, span, placeIndex, endsAt, entryOf}
+use Rattle.cycle_place.specs.Places.{nextAt, isPlaceOf}
 use Rattle.cycle_place.specs.declared.Place.{Place}
-use Rattle.cycle_place.specs.declared.walk.Standing.{Standing}
+use Rattle.cycle_place.specs.declared.walk.Extent.{Extent}
+use Rattle.cycle_place.specs.declared.walk.Sought.{Sought}
+use Rattle.cycle_place.specs.declared.walk.Sought.the-variants as soughts
+use Rattle.cycle_place.specs.declared.walk.Here.{Here}
 use Rattle.cycle_place.specs.declared.walk.Located.{Located}
-use Rattle.cycle_place.specs.declared.walk.Located.the-variants.{Opening, At, Elsewhere}
+use Rattle.cycle_place.specs.declared.walk.Located.the-variants.{Opening, Test, Elsewhere}
 
 -- the place of a test
 abbrev pub Stands : ℕ → Shape → Place → Type 0
@@ -23,14 +32,40 @@ abbrev pub testOf : ℕ → Shape → Place → Entry
 testOf z s p = entryOf z s (p .check) (p .digit) (p .column) (p .factor)
 
 -- q / ρ^s, |J(ℓ)| and the rank of j for a place
-abbrev pub standingAt : Shape → Place → Standing
-standingAt s p = record { span = span s (p .digit); size = supportSize s (p .check); rank = rank s (p .check) (p .column) }
+abbrev pub extentAt : Shape → Place → Extent
+extentAt s p = record { span = span s (p .digit); size = supportSize s (p .check); rank = rank s (p .check) (p .column) }
 
--- what stands at the place of the lookup after c others: the opening where there are none, else a test
-abbrev pub foundAt : Shape → ℕ → Place → Located
-foundAt s zero p = Opening
-foundAt s (suc c) p = At (standingAt s p)
+-- that is found of a test at the place of the lookup after c others, and nothing elsewhere
+abbrev pub soughtAt : ℕ → Shape → ℕ → Place → Sought
+soughtAt z s c p = cond (isPlaceOf z s c p) (soughts.At (extentAt s p)) soughts.Elsewhere
 
--- that is found at the place of the lookup after c others, and nothing elsewhere
+-- a test that is next, after c others: whether it is the last of its check row and digit, and the place after it
+abbrev pub hereAt : ℕ → Shape → ℕ → Place → Here
+hereAt z s c p = record { ends = endsAt s (p .check) (p .digit) (p .column) (p .factor); next = nextAt z s (suc c) }
+
+-- what a step is told at the place of the lookup after c others: of the opening where there are none, else of a test
+abbrev pub toldAt : ℕ → Shape → ℕ → Place → Located
+toldAt z s zero p = Opening (nextAt z s 1)
+toldAt z s (suc c) p = Test (hereAt z s (suc c) p)
+
+-- .. and elsewhere nothing
 abbrev pub locatedAt : ℕ → Shape → ℕ → Place → Located
-locatedAt z s c p = cond (isPlaceOf z s c p) (foundAt s c p) Elsewhere
+locatedAt z s c p = cond (isPlaceOf z s c p) (toldAt z s c p) Elsewhere
+
+-- ---- what the walk asks of its arguments
+
+-- a shape taken, its sizes, and its check matrix, column after column
+pub record MatrixLent (s : Shape) (given : Sizes) (columnBytes : List ℕ) : Type 0 where
+  pub taken : Taken s
+  pub sizes : given ≡ sizesOf s
+  pub matrix : columnBytes ≡ matrixOf s
+
+-- the place of a test, and where it lies
+pub record TestAt (z : ℕ) (s : Shape) (p : Place) (lies : Extent) : Type 0 where
+  pub stands : Stands z s p
+  pub extent : lies ≡ extentAt s p
+
+-- a column of the check row, and a factor of the digit
+pub record Inside (lies : Extent) (a : ℕ) : Type 0 where
+  pub column : lies .rank < lies .size
+  pub factor : a < lies .span

@@ -6,7 +6,7 @@ ghost use Prim.Native.Nat.{_^_, _≤_, _<_};
 ghost use lib.ListN.{length};
 ghost use Rattle.parity.specs.Matrix.{placesFrom};
 ghost use Rattle.shape.specs.Lent.{was};
-ghost use Rattle.cycle_place.specs.Survey.{surveyOf, heldFrom};
+ghost use Rattle.cycle_place.specs.Survey.{surveyOf, heldFrom, ColumnsLent};
 
 // What the matrix tells of check row ℓ and column j: the ones in the check rows before ℓ, those in ℓ, and
 // those in ℓ before j.
@@ -26,7 +26,7 @@ fn mask_of(check: usize) -> u8
 
 // The columns with a one in check row ℓ. Counted in a byte, so that many columns are taken at once.
 fn count_held(matrix: &[u8], check: usize) -> usize
-    requires { ⌜ (length (now matrix) ≤ 255) × (check < 8) ⌝ }
+    requires { ⌜ ColumnsLent (length (now matrix)) check ⌝ }
     ensures { λ r. ⌜ r ≡ length (placesFrom 0 check (was matrix)) ⌝ }
 {
     let mask = mask_of(check);
@@ -42,7 +42,8 @@ fn count_held(matrix: &[u8], check: usize) -> usize
 }
 
 pub(crate) fn survey_check(matrix: &[u8], check: usize, column: usize) -> Survey
-    requires { ⌜ (length (now matrix) ≤ 255) × (check < 8) × (column ≤ length (now matrix)) ⌝ }
+    requires { ⌜ ColumnsLent (length (now matrix)) check ⌝ }
+    requires { ⌜ column ≤ length (now matrix) ⌝ }
     ensures { λ r. ⌜ r ≡ surveyOf (was matrix) check column ⌝ }
 {
     let mut before: usize = 0;
@@ -58,7 +59,8 @@ pub(crate) fn survey_check(matrix: &[u8], check: usize, column: usize) -> Survey
 
 // The first column from a place on with a one in check row ℓ, or their number where there is none.
 pub(crate) fn next_held(matrix: &[u8], check: usize, from: usize) -> usize
-    requires { ⌜ (check < 8) × (from ≤ length (now matrix)) ⌝ }
+    requires { ⌜ check < 8 ⌝ }
+    requires { ⌜ from ≤ length (now matrix) ⌝ }
     ensures { λ r. ⌜ r ≡ heldFrom (was matrix) check from ⌝ }
 {
     let mask = mask_of(check);

@@ -1,14 +1,15 @@
 // The numbers of a place in the schedule: spans, factors, and the lookups before it.
 use super::columns::Survey;
 ghost use mathlib.Core.Path.{_≡_};
-ghost use mathlib.Core.Logic.{_≢_};
 ghost use mathlib.Core.Bool.{not, cond, _&&_};
 ghost use Prim.Native.Nat.{_+_, _-_, _*_, _/_, _%_, _^_, _≤_, _<_};
 ghost use lib.Dec.{eqb, leb, ltb};
+ghost use Rattle.cycle_place.specs.Survey.{ToIndex};
 
 // a × ρ^e
 pub fn scale(number: usize, radix: usize, exponent: usize) -> usize
-    requires { ⌜ (0 < radix) × (number * radix ^ exponent ≤ 256) ⌝ }
+    requires { ⌜ 0 < radix ⌝ }
+    requires { ⌜ number * radix ^ exponent ≤ 256 ⌝ }
     ensures { λ r. ⌜ r ≡ number * radix ^ exponent ⌝ }
 {
     let mut product = number;
@@ -36,7 +37,8 @@ pub(crate) fn is_factor(factor: usize, span: usize, radix: usize) -> bool
 
 // The factor after one that ρ does not divide.
 pub(crate) fn next_factor(factor: usize, radix: usize) -> usize
-    requires { ⌜ (factor < 256) × (0 < radix) ⌝ }
+    requires { ⌜ factor < 256 ⌝ }
+    requires { ⌜ 0 < radix ⌝ }
     ensures { λ r. ⌜ r ≡ cond (eqb ((factor + 1) % radix) 0) (factor + 2) (factor + 1) ⌝ }
 {
     if factor % radix == radix - 1 {
@@ -54,8 +56,7 @@ pub(crate) fn index_of(
     next: usize,
     survey: Survey,
 ) -> usize
-    requires { ⌜ ((1 ≤ levels) × (levels ≤ 256)) × (0 < radix) × ((factor < 256) × (factor % radix ≢ 0))
-        × ((0 < next) × (next * radix ≤ 256)) × ((survey .before ≤ 2040) × (survey .size ≤ 255) × (survey .rank ≤ 255)) ⌝ }
+    requires { ⌜ ToIndex levels radix factor next survey ⌝ }
     ensures { λ r. ⌜ r ≡ (levels - 1) * survey .before + survey .size * (next - 1)
         + survey .rank * (next * radix - next) + (factor - 1 - (factor - 1) / radix) ⌝ }
 {

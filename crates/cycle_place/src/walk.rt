@@ -1,4 +1,5 @@
-// The walk through the schedule: whether a place is that of the lookup after so many others, and the place that comes next.
+// The walk through the schedule: whether a place is that of the lookup after so many others, and the place that comes next, in one
+// answer.
 use super::Place;
 use super::columns::next_held;
 use super::columns::survey_check;
@@ -11,25 +12,24 @@ use parity::Shape;
 use shape::byte::wide;
 use shape::sizes::Sizes;
 ghost use mathlib.Core.Path.{_≡_};
+ghost use mathlib.Core.Bool.{_&&_};
 ghost use Prim.Native.Nat.{ℕ, suc, _<_};
-ghost use Rattle.parity.specs.Matrix.{matrix as matrixOf};
-ghost use Rattle.parity.specs.Questions.{Taken};
+ghost use lib.Dec.{eqb};
 ghost use Rattle.shape.specs.Shapes.{sizesOf};
 ghost use Rattle.cycle_place.specs.Places.{placeAt, nextAt, samePlace};
 ghost use Rattle.cycle_place.specs.declared.walk.Next.the-variants.{Place as NextPlace};
-ghost use Rattle.cycle_place.specs.Walk.{Stands, indexOf, standingAt, locatedAt};
+ghost use Rattle.cycle_place.specs.Walk.{indexOf, soughtAt, locatedAt, MatrixLent, TestAt, Inside};
 
-// Where a place stands in its check row and digit: q / ρ^s, |J(ℓ)|, and the columns of J(ℓ) before its own.
-pub struct Standing {
-    pub span: usize,
-    pub size: usize,
-    pub rank: usize,
+// Where a test's place lies in its check row and digit: q / ρ^s, |J(ℓ)|, and the columns of J(ℓ) before its own.
+pub(crate) struct Extent {
+    pub(crate) span: usize,
+    pub(crate) size: usize,
+    pub(crate) rank: usize,
 }
 
-// What a place is: that of the opening, that of a test, with where it stands, or none.
-pub enum Located {
-    Opening,
-    At(Standing),
+// Whether a test is found at a place, and where that lies.
+pub(crate) enum Sought {
+    At(Extent),
     Elsewhere,
 }
 
@@ -37,6 +37,19 @@ pub enum Located {
 pub enum Next {
     Place(Place),
     End,
+}
+
+// A test that is next: whether it is the last of its check row and digit, and the place after it.
+pub struct Here {
+    pub ends: bool,
+    pub next: Next,
+}
+
+// What a place is: that of the opening, with the place after it, that of a test, or none.
+pub enum Located {
+    Opening(Next),
+    Test(Here),
+    Elsewhere,
 }
 
 fn is_zero(place: Place) -> bool
@@ -54,20 +67,7 @@ fn is_zero(place: Place) -> bool
     place.factor == 0
 }
 
-// Whether a place is the opening's, which comes first: all 0, in a cycle that does not skip all digits.
-fn locate_opening(place: Place, skip: usize, shape: Shape) -> Located
-    ensures { λ r. ⌜ r ≡ locatedAt skip shape 0 place ⌝ }
-{
-    if shape.digits <= skip {
-        return Located::Elsewhere;
-    }
-    if !is_zero(place) {
-        return Located::Elsewhere;
-    }
-    Located::Opening
-}
-
-// Whether the test at a place is the lookup that comes after so many others, and where it stands.
+// Whether the test at a place is the lookup that comes after so many others, and where it lies.
 fn locate_test(
     place: Place,
     skip: usize,
@@ -75,9 +75,10 @@ fn locate_test(
     shape: Shape,
     sizes: Sizes,
     matrix: &[u8],
-) -> Located
-    requires { ⌜ Taken shape × (sizes ≡ sizesOf shape) × (now matrix ≡ matrixOf shape) × (0 < count) ⌝ }
-    ensures { λ r. ⌜ r ≡ locatedAt skip shape count place ⌝ }
+) -> Sought
+    requires { ⌜ MatrixLent shape sizes (now matrix) ⌝ }
+    requires { ⌜ 0 < count ⌝ }
+    ensures { λ r. ⌜ r ≡ soughtAt skip shape count place ⌝ }
 {
     let check = place.check;
     let digit = place.digit;
@@ -85,60 +86,42 @@ fn locate_test(
     let factor = place.factor;
     let radix = shape.radix;
     if sizes.checks <= check {
-        return Located::Elsewhere;
+        return Sought::Elsewhere;
     }
     if shape.digits <= digit {
-        return Located::Elsewhere;
+        return Sought::Elsewhere;
     }
     if digit < skip {
-        return Located::Elsewhere;
+        return Sought::Elsewhere;
     }
     if matrix.len() <= column {
-        return Located::Elsewhere;
+        return Sought::Elsewhere;
     }
     if wide(matrix[column]) / power_of_two(check) % 2 == 0 {
-        return Located::Elsewhere;
+        return Sought::Elsewhere;
     }
     let next = scale(1, radix, shape.digits - digit - 1);
     let span = next * radix;
     if !is_factor(factor, span, radix) {
-        return Located::Elsewhere;
+        return Sought::Elsewhere;
     }
     let survey = survey_check(matrix, check, column);
     // q / ρ^z
     let levels = scale(span, radix, digit - skip);
     // the opening comes before the tests
     if index_of(levels, radix, factor, next, survey) + 1 != count {
-        return Located::Elsewhere;
+        return Sought::Elsewhere;
     }
-    Located::At(Standing {
+    Sought::At(Extent {
         span,
         size: survey.size,
         rank: survey.rank,
     })
 }
 
-// Whether the lookup at a place is the one that comes after so many others, and where it stands.
-pub fn locate(
-    place: Place,
-    skip: usize,
-    count: usize,
-    shape: Shape,
-    sizes: Sizes,
-    matrix: &[u8],
-) -> Located
-    requires { ⌜ Taken shape × (sizes ≡ sizesOf shape) × (now matrix ≡ matrixOf shape) ⌝ }
-    ensures { λ r. ⌜ r ≡ locatedAt skip shape count place ⌝ }
-{
-    if count == 0 {
-        return locate_opening(place, skip, shape);
-    }
-    locate_test(place, skip, count, shape, sizes, matrix)
-}
-
 // The place of a cycle's first test, which comes after the opening, whatever digits it skips.
-pub fn first(shape: Shape, matrix: &[u8]) -> Place
-    requires { ⌜ Taken shape × (now matrix ≡ matrixOf shape) ⌝ }
+fn first(shape: Shape, matrix: &[u8]) -> Place
+    requires { ⌜ MatrixLent shape (sizesOf shape) (now matrix) ⌝ }
     ensures { λ r. ⌜ ((z : ℕ) → z < shape .digits → nextAt z shape 1 ≡ NextPlace r) ⌝ }
 {
     let digits = shape.digits;
@@ -150,17 +133,25 @@ pub fn first(shape: Shape, matrix: &[u8]) -> Place
     }
 }
 
+// Whether the test of a factor is the last of its check row and digit.
+fn ends_digit(extent: Extent, factor: usize) -> bool
+    requires { ⌜ Inside extent factor ⌝ }
+    ensures { λ r. ⌜ r ≡ eqb (suc (extent .rank)) (extent .size) && eqb (suc factor) (extent .span) ⌝ }
+{
+    extent.rank + 1 == extent.size && factor + 1 == extent.span
+}
+
 // The place after that of a test.
-pub fn advance(
+fn advance(
     place: Place,
     skip: usize,
     shape: Shape,
     sizes: Sizes,
     matrix: &[u8],
-    standing: Standing,
+    extent: Extent,
 ) -> Next
-    requires { ⌜ Taken shape × (sizes ≡ sizesOf shape) × (now matrix ≡ matrixOf shape) ⌝ }
-    requires { ⌜ Stands skip shape place × (standing ≡ standingAt shape place) ⌝ }
+    requires { ⌜ MatrixLent shape sizes (now matrix) ⌝ }
+    requires { ⌜ TestAt skip shape place extent ⌝ }
     ensures { λ r. ⌜ r ≡ nextAt skip shape (suc (indexOf skip shape place)) ⌝ }
 {
     let mut next = place;
@@ -168,12 +159,12 @@ pub fn advance(
     let digit = place.digit;
     let column = place.column;
     let factor = next_factor(place.factor, shape.radix);
-    if factor < standing.span {
+    if factor < extent.span {
         next.factor = factor;
         return Next::Place(next);
     }
     next.factor = 1;
-    if standing.rank + 1 < standing.size {
+    if extent.rank + 1 < extent.size {
         next.column = next_held(matrix, check, column + 1);
         return Next::Place(next);
     }
@@ -189,4 +180,43 @@ pub fn advance(
         return Next::Place(next);
     }
     Next::End
+}
+
+// The first lookup, if its place is the opening's, all 0, in a cycle that does not skip all digits.
+fn locate_opening(place: Place, skip: usize, shape: Shape, matrix: &[u8]) -> Located
+    requires { ⌜ MatrixLent shape (sizesOf shape) (now matrix) ⌝ }
+    ensures { λ r. ⌜ r ≡ locatedAt skip shape 0 place ⌝ }
+{
+    if shape.digits <= skip {
+        return Located::Elsewhere;
+    }
+    if !is_zero(place) {
+        return Located::Elsewhere;
+    }
+    Located::Opening(Next::Place(first(shape, matrix)))
+}
+
+// The lookup that comes after so many others, if its place is this one.
+pub fn locate(
+    place: Place,
+    skip: usize,
+    count: usize,
+    shape: Shape,
+    sizes: Sizes,
+    matrix: &[u8],
+) -> Located
+    requires { ⌜ MatrixLent shape sizes (now matrix) ⌝ }
+    ensures { λ r. ⌜ r ≡ locatedAt skip shape count place ⌝ }
+{
+    if count == 0 {
+        return locate_opening(place, skip, shape, matrix);
+    }
+    match locate_test(place, skip, count, shape, sizes, matrix) {
+        Sought::Elsewhere => Located::Elsewhere,
+        Sought::At(extent) => {
+            let ends = ends_digit(extent, place.factor);
+            let next = advance(place, skip, shape, sizes, matrix, extent);
+            Located::Test(Here { ends, next })
+        }
+    }
 }

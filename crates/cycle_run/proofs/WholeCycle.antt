@@ -2,32 +2,32 @@
 -- Assumes nothing.
 use mathlib.Core.Path.{_≡_, refl, sym, ap, ap₂, subst, _∙_}
 use mathlib.Core.Bool.{Bool, true, false, cond}
-use mathlib.Core.List.{List}
+use mathlib.Core.List.{List, [], _∷_}
 use Prim.Native.Nat.{ℕ, suc, _-_, _≤_, _<_}
 use native.Mathlib.Nat.{sub-zero}
 use native.Mathlib.Omega.{arith}
 use lib.Dec.{ltb}
 use lib.ListN.{length, replicate}
-use borrow.Author.Tests.{eq-eqb, ltb-true, ltb-false}
+use borrow.Author.Tests.{ltb-true, ltb-false}
 use Rattle.parity.specs.Matrix.{lookups, cycleSteps}
 use Rattle.parity.specs.Questions.{firstNo, Taken}
 use Rattle.parity.specs.declared.Shape.{Shape}
+use Rattle.parity.proofs.Alongside.{equal-alongside}
 use Rattle.parity.proofs.ListLaws.{length-tabulate}
 use Rattle.shape.specs.Answers.{Result, accepted, giving}
 use Rattle.shape.proofs.Calling.{call-done}
 use Rattle.schedule.proofs.Length.{schedule-length}
 use Rattle.array_memory.specs.Geometry.{matchBytes}
-use Rattle.array_memory.specs.Memory.{Sized}
+use Rattle.array_memory.specs.Lengths.{Sized}
 use Rattle.cycle_place.specs.Places.{placeOf, entryAt, nextAt}
 use Rattle.cycle_place.specs.declared.walk.Next.the-variants as nexts
 use Rattle.cycle_lookup.specs.Lookup.{entryMatches, lookedUp}
 use Rattle.cycle.specs.Record.{recordAt, cycleAt, isOpen, isNext}
 use Rattle.cycle.specs.Calls.{State, stepMatches, steppedMemory, stepped, stepQuestions, stepCall}
-use Rattle.cycle.specs.Run.{step, runFrom}
 use Rattle.cycle.proofs.Asked.{step-asked}
 use Rattle.cycle.proofs.CycleRecord.{record-count, record-skip, next-open}
 use Rattle.cycle.proofs.Steps.{stepped-cycle, stepped-sized}
-use Rattle.cycle_run.specs.Cycles.{lastMatches}
+use Rattle.cycle_run.specs.Cycles.{afterSteps, lastMatches}
 
 -- a record of a count is open while a lookup is to come
 open-below : (z : ℕ) (s : Shape) → Taken s → (c : ℕ) → isOpen (cycleAt z s c .phase) ≡ ltb c (cycleSteps z s)
@@ -45,7 +45,7 @@ pub record Going (z : ℕ) (s : Shape) (first : State) (given : List ℕ) (c : �
   pub buffer : length matches ≡ s .rows
   pub high : c ≤ cycleSteps z s
   pub cycle : st .cycle ≡ cycleAt z s c
-  pub rest : runFrom s st (replicate (cycleSteps z s - c) (step given)) ≡ runFrom s first (replicate (cycleSteps z s) (step given))
+  pub rest : afterSteps s st (replicate (cycleSteps z s - c) given) ≡ afterSteps s first (replicate (cycleSteps z s) given)
   pub made : 0 < c → matches ≡ entryMatches s (entryAt z s (c - 1)) (st .memory)
 
 module _ (z : ℕ) (s : Shape) (t : Taken s) (some : z < s .digits) (first : State) (given : List ℕ) (l : length given ≡ s .rows) where
@@ -64,7 +64,7 @@ module _ (z : ℕ) (s : Shape) (t : Taken s) (some : z < s .digits) (first : Sta
     unfolding stepCall
     step-made h buffer e =
         let none : firstNo (stepQuestions s st buffer) ≡ 0 = step-asked s t st (g .sized) buffer
-        ∙ simp (eq-eqb (length buffer) (s .rows) e, ap (isNext s) (g .cycle) ∙ next-open z s t c some h) in
+        ∙ simp (equal-alongside (length buffer ∷ []) (s .rows ∷ []) (λ i. e i ∷ []), ap (isNext s) (g .cycle) ∙ next-open z s t c some h) in
         call-done (stepQuestions s st buffer) buffer st _ none
 
     stepped-going : c < cycleSteps z s → Going z s first given (suc c) (stepped s st) (stepMatches s st)
@@ -79,8 +79,8 @@ module _ (z : ℕ) (s : Shape) (t : Taken s) (some : z < s .digits) (first : Sta
           high = omega arith;
           cycle = stepped-cycle s st z c own (ap (λ r. r .count) (g .cycle) ∙ record-count z s c);
           rest =
-              ap (λ r. runFrom s (r .state) (replicate (cycleSteps z s - suc c) (step given))) (sym (step-made h given l))
-              ∙ sym (ap (λ n. runFrom s st (replicate n (step given))) more)
+              ap (λ r. afterSteps s (r .state) (replicate (cycleSteps z s - suc c) given)) (sym (step-made h given l))
+              ∙ sym (ap (λ n. afterSteps s st (replicate n given)) more)
               ∙ g .rest;
           made = λ _. ap₂ (λ z n. entryMatches s (entryAt z s n) (st .memory)) own now;
         }
@@ -99,11 +99,11 @@ module _ (z : ℕ) (s : Shape) (t : Taken s) (some : z < s .digits) (first : Sta
     -- when the record is no longer open
     pub going-end :
         isOpen (st .cycle .phase) ≡ false
-        → giving (accepted 0) (lastMatches z s (st .memory)) (runFrom s first (replicate (cycleSteps z s) (step given))) ≡ giving (accepted 0) matches st
+        → giving (accepted 0) (lastMatches z s (st .memory)) (afterSteps s first (replicate (cycleSteps z s) given)) ≡ giving (accepted 0) matches st
     unfolding lastMatches
     going-end e =
         let all : c ≡ cycleSteps z s = omega (arith, ltb-false c (cycleSteps z s) (sym phase ∙ e), g .high) in
         let over : cycleSteps z s - c ≡ 0 = omega arith in
         let last : c - 1 ≡ lookups z s = omega arith in
         ap₂ (giving (accepted 0)) (sym (rw last at (g .made (omega arith))))
-        (sym (g .rest) ∙ ap (λ n. runFrom s st (replicate n (step given))) over)
+        (sym (g .rest) ∙ ap (λ n. afterSteps s st (replicate n given)) over)

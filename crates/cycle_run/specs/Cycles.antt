@@ -1,20 +1,25 @@
 -- A whole cycle as one call.
-use mathlib.Core.List.{List, [], _∷_}
+use mathlib.Core.List.{List}
 use Prim.Native.Nat.{ℕ}
-use lib.ListN.{replicate}
+use lib.ListN.{length, replicate}
+use Rattle.parity.specs.Lists.{followed}
 use Rattle.parity.specs.Matrix.{lookups, cycleSteps}
-use Rattle.parity.specs.Questions.{Question, callQuestions}
+use Rattle.parity.specs.Questions.{Question}
 use Rattle.parity.specs.declared.Shape.{Shape}
 use Rattle.shape.specs.Answers.{Result, accepted, giving, calling}
+use Rattle.array_memory.specs.Lengths.{allLengths}
 use Rattle.array_memory.specs.Memory.{Memory}
 use Rattle.cycle_place.specs.Places.{entryAt}
 use Rattle.cycle_lookup.specs.Lookup.{entryMatches}
-use Rattle.cycle.specs.Calls.{State, startArguments, lentQuestions}
-use Rattle.cycle.specs.Run.{start, step, runFrom}
+use Rattle.cycle.specs.Calls.{State, startArguments, lentQuestions, startCall, stepCall}
+
+-- the state after a step with each of the buffers for match bytes, one after the other
+abbrev pub afterSteps : Shape → State → List (List ℕ) → State
+afterSteps s st buffers = followed (λ st matches. stepCall s st matches .state) st buffers
 
 -- 15 on the number of digits to skip, 6 on the memory and the match bytes; not 9, since the call starts a cycle
 abbrev pub cycleQuestions : Shape → Memory → ℕ → List ℕ → List Question
-cycleQuestions s mem z matches = callQuestions s (startArguments s z) (lentQuestions s mem matches) []
+cycleQuestions s mem z matches = lentQuestions s (startArguments s z) (allLengths mem) (length matches)
 
 -- the match bytes of a cycle's last lookup, which comes after the opening and all tests but itself
 unfoldable pub lastMatches : ℕ → Shape → Memory → List ℕ
@@ -24,4 +29,4 @@ lastMatches z s mem = entryMatches s (entryAt z s (lookups z s)) mem
 unfoldable pub cycleCall : Shape → State → ℕ → List ℕ → Result State
 cycleCall s st z matches =
     calling (cycleQuestions s (st .memory) z matches) matches st
-    (giving (accepted 0) (lastMatches z s (st .memory)) (runFrom s st (start z ∷ replicate (cycleSteps z s) (step matches))))
+    (giving (accepted 0) (lastMatches z s (st .memory)) (afterSteps s (startCall s st z .state) (replicate (cycleSteps z s) matches)))

@@ -1,2 +1,3 @@
 -- A whole cycle as one call.
 pub mod Cycles
+pub mod Starts

@@ -1,30 +1,32 @@
 // One whole detection cycle as one call.
-use array_memory::memory::check_matches;
-use array_memory::memory::check_skip;
 use cycle::Changed;
 use cycle::Cycle;
 use cycle::calls::done;
 use cycle::calls::refused;
+use cycle::calls::start_lent;
+use cycle::questions::check_lent;
 use parity::Shape;
 use shape::sizes::Checked;
+use shape::sizes::Sizes;
+use shape::sizes::check_shape;
 ghost use mathlib.Core.Path.{_≡_};
-ghost use Prim.Native.Nat.{_<_};
 ghost use lib.ListN.{length, replicate};
 ghost use Rattle.parity.specs.Matrix.{cycleSteps};
-ghost use Rattle.parity.specs.Questions.{Taken};
 ghost use Rattle.shape.specs.Answers.{accepted, giving};
 ghost use Rattle.shape.specs.Lent.{was, left};
-ghost use Rattle.array_memory.specs.Memory.{Memory, withAll, noMemory, Sized};
-ghost use Rattle.cycle.specs.Record.{cycleAt};
+ghost use Rattle.array_memory.specs.Buffers.{wasAll, leftAll};
+ghost use Rattle.array_memory.specs.Memory.{Memory, withAll, noMemory};
+ghost use Rattle.cycle_lookup.specs.Rows.{RowsLent};
 ghost use Rattle.cycle.specs.Calls.{stateOf};
-ghost use Rattle.cycle.specs.Run.{step, runFrom};
 ghost use Rattle.cycle.specs.Methods.{changing, doneWith};
-ghost use Rattle.cycle_run.specs.Cycles.{lastMatches, cycleCall};
+ghost use Rattle.cycle_run.specs.Cycles.{afterSteps, lastMatches, cycleCall};
+ghost use Rattle.cycle_run.specs.Starts.{Started};
 
-// The steps of a cycle that is just started.
+// The steps of a cycle that is just started. The buffers have their lengths, so no step asks for them again.
 fn run_open(
     cycle: Cycle,
     shape: Shape,
+    sizes: Sizes,
     cells: &[u8],
     lines: &[u8],
     counters: &mut [u8],
@@ -32,16 +34,16 @@ fn run_open(
     totals: &mut [u8],
     matches: &mut [u8],
 ) -> Cycle
-    requires { ⌜ Taken shape × (cycle .skip < shape .digits) × (cycle ≡ cycleAt (cycle .skip) shape 0) ⌝ }
-    requires { ⌜ Sized shape (withAll (now cells) (now lines) (now counters) (now flags) (now totals) noMemory) × (length (now matches) ≡ shape .rows) ⌝ }
-    ensures { λ r. ⌜ ((mem : Memory) → let st = stateOf (withAll (was cells) (was lines) (was counters) (was flags) (was totals) mem) cycle in
+    requires { ⌜ Started shape sizes cycle ⌝ }
+    requires { ⌜ RowsLent shape (withAll (now cells) (now lines) (now counters) (now flags) (now totals) noMemory) (length (now matches)) ⌝ }
+    ensures { λ r. ⌜ ((mem : Memory) → let st = stateOf (wasAll cells lines counters flags totals mem) cycle in
         giving (accepted 0) (lastMatches (cycle .skip) shape (st .memory))
-        (runFrom shape st (replicate (cycleSteps (cycle .skip) shape) (step (was matches))))
-        ≡ changing (doneWith r) (left matches) (withAll (was cells) (was lines) (left counters) (left flags) (left totals) mem)) ⌝ }
+        (afterSteps shape st (replicate (cycleSteps (cycle .skip) shape) (was matches)))
+        ≡ changing (doneWith r) (left matches) (leftAll cells lines counters flags totals mem)) ⌝ }
 {
     let mut now = cycle;
     while now.is_open() {
-        let stepped = now.step(shape, cells, lines, counters, flags, totals, matches);
+        let stepped = now.step_lent(shape, sizes, cells, lines, counters, flags, totals, matches);
         now = stepped.cycle;
     }
     now
@@ -59,12 +61,11 @@ pub fn run_cycle(
     totals: &mut [u8],
     matches: &mut [u8],
 ) -> Changed
-    ensures { λ r. ⌜ ((mem : Memory)
-        → cycleCall shape (stateOf (withAll (was cells) (was lines) (was counters) (was flags) (was totals) mem) cycle) skip (was matches)
-        ≡ changing r (left matches) (withAll (was cells) (was lines) (left counters) (left flags) (left totals) mem)) ⌝ }
+    ensures { λ r. ⌜ ((mem : Memory) → cycleCall shape (stateOf (wasAll cells lines counters flags totals mem) cycle) skip (was matches)
+        ≡ changing r (left matches) (leftAll cells lines counters flags totals mem)) ⌝ }
 {
-    match check_matches(
-        check_skip(shape, skip),
+    match check_lent(
+        check_shape(shape).check(15, skip < shape.digits),
         shape,
         cells.len(),
         lines.len(),
@@ -74,11 +75,12 @@ pub fn run_cycle(
         matches.len(),
     ) {
         Checked::Refused(number) => refused(cycle, number),
-        Checked::Taken(_) => {
-            let started = cycle.start(shape, skip, counters, flags, totals);
+        Checked::Taken(sizes) => {
+            let started = start_lent(shape, sizes, skip, counters, flags, totals);
             done(run_open(
-                started.cycle,
+                started,
                 shape,
+                sizes,
                 cells,
                 lines,
                 counters,

@@ -5,7 +5,7 @@ use mathlib.Core.Bool.{Bool, false}
 use mathlib.Core.List.{List, []}
 use Prim.Native.Nat.{ℕ, _*_, _<_}
 use lib.ListN.{length, getD, take, drop, length-replicate}
-use Rattle.parity.specs.Shape.{levels, columns}
+use Rattle.parity.specs.Shape.{levels, columns, cellCount}
 use Rattle.parity.specs.Matrix.{cycleSteps}
 use Rattle.parity.specs.Codeword.{Codeword}
 use Rattle.parity.specs.Claims.{Below}
@@ -14,7 +14,7 @@ use Rattle.parity.specs.declared.Shape.{Shape}
 use Rattle.parity.proofs.ListLaws.{Each}
 use Rattle.schedule.proofs.All.{All, all-at, all-turn}
 use Rattle.array_memory.specs.Geometry.{rowAt}
-use Rattle.array_memory.specs.Memory.{RowsSized, Sized, cellCount}
+use Rattle.array_memory.specs.Lengths.{RowsSized, Sized}
 use Rattle.cycle.specs.Calls.{State, zeroRows, cleared, fresh}
 use Rattle.cycle.specs.declared.Cycle.{Cycle}
 use Rattle.cycle.specs.declared.Phase.the-variants.{Idle}
@@ -62,11 +62,11 @@ InCourse s st open-cycle z c changed = Running s st z c changed × (c < cycleSte
 InCourse s st ended z c changed = Running s st z c changed × (c ≡ cycleSteps z s)
 
 pub record Agrees (s : Shape) (st : State) (l : Log) : Type 0 where
-  pub rows : RowsAgree s (st .memory .cells) (l .written) (l .standing)
-  pub lines : st .memory .lines ≡ l .lines
+  pub rows : RowsAgree s (st .memory .cells) (l .rows .written) (l .rows .standing)
+  pub lines : st .memory .lines ≡ l .rows .lines
   pub lineCount : length (st .memory .lines) ≡ s .rows
   pub rest : RowsSized s (st .memory)
-  pub course : InCourse s st (l .course) (l .skip) (l .count) (l .changed)
+  pub course : InCourse s st (l .cycle .course) (l .cycle .skip) (l .cycle .count) (l .marks .changed)
 
 module _ (s : Shape) (cells : List ℕ) (written standing : List (List ℕ)) (r : RowsAgree s cells written standing) where
   pub wide : Wide (columns s) standing

@@ -8,6 +8,7 @@ use lib.Dec.{ltb}
 use lib.ListN.{length, take}
 use lib.Seq.{length-take-le, getD-take}
 use borrow.Author.Tests.{eq-eqb, lt-ltb}
+use Rattle.parity.specs.Lists.{followed}
 use Rattle.parity.specs.Shape.{levels, columns}
 use Rattle.parity.specs.Codeword.{Codeword, encode}
 use Rattle.parity.specs.Claims.{Below}
@@ -17,16 +18,16 @@ use Rattle.parity.proofs.ListLaws.{every-passes}
 use Rattle.parity.proofs.CodewordTest.{codeword-passes}
 use Rattle.parity.proofs.Encoding.{encodedClaim, encodingClaim}
 use Rattle.shape.specs.Answers.{accepted, refused, giving, calling}
-use Rattle.shape.proofs.Refusals.{first-behind}
-use Rattle.shape.proofs.Calling.{call-done, call-taken, call-keeps}
+use Rattle.shape.proofs.Refusals.{first-after}
+use Rattle.shape.proofs.Calling.{if-either, call-done, call-taken, call-keeps}
 use Rattle.array_memory.specs.Memory.{Memory}
 use Rattle.array_questions.specs.Questions.{cellsQuestions, programArguments, askArguments, commitArguments}
 use Rattle.array_questions.proofs.Asked.{Programs, cells-parts, ask-reads, commit-reads}
 use Rattle.array.specs.Calls.{rowWritten, askCall}
 use Rattle.cycle.specs.Record.{idle}
 use Rattle.cycle.specs.Calls.{State, stateOf, fresh, programCall, commitCall}
-use Rattle.cycle.specs.Run.{Call, program, ask, commit, after, followed, run}
-use Rattle.cycle.proofs.Runs.{followed-same}
+use Rattle.call_lists.specs.Run.{Call, program, ask, commit, after, run}
+use Rattle.parity.proofs.Followed.{followed-same}
 use Rattle.detection.specs.Log.{Log, blank, logWritten, logCall, log}
 use Rattle.detection.specs.Commits.{Same, Replaces, AskClaim, CommitClaim, AcceptedClaim}
 
@@ -43,9 +44,12 @@ ask-leaves : (s : Shape) (st : State) (row : ℕ) (given buffer : List ℕ) → 
 unfolding askCall
 ask-leaves s st row given buffer = call-keeps _ _ (st .memory) _ (λ mem. stateOf mem (st .cycle) ≡ st) refl refl
 
+ask-unlogged : (s : Shape) (l : Log) (row : ℕ) (given buffer : List ℕ) → logCall s l (ask row given buffer) ≡ l
+ask-unlogged s l row given buffer = if-either (λ k. k ≡ l) (firstNo (askArguments s row given (length buffer))) l l refl refl
+
 pub askClaim : AskClaim
 askClaim s before rest row given buffer =
-    same-lists s (ask row given buffer ∷ rest) rest (λ st. ap (λ st. followed (after s) st rest) (ask-leaves s st row given buffer)) (λ l. refl) before
+    same-lists s (ask row given buffer ∷ rest) rest (λ st. ap (λ st. followed (after s) st rest) (ask-leaves s st row given buffer)) (λ l. ap (λ l. followed (logCall s) l rest) (ask-unlogged s l row given buffer)) before
 
 -- ---- a finished row, of levels that programming takes
 module _ (s : Shape) (t : Taken s) (given : List ℕ) (sized : length given ≡ s .width) (below : Below (levels s) (s .width) given) where
@@ -68,7 +72,7 @@ module _ (s : Shape) (t : Taken s) (given : List ℕ) (sized : length given ≡ 
   same-call st row =
       let cells = length (st .memory .cells) in
       ap (λ n. ifTaken n (giving (accepted 0) [] (stateOf (rowWritten s (st .memory) row (encode s given)) idle)) (giving (refused 0 n) [] st))
-      (first-behind (cellsQuestions s cells []) (commitArguments s row (encode s given)) (programArguments s row given) (same-question row))
+      (first-after (cellsQuestions s cells []) (commitArguments s row (encode s given)) (programArguments s row given) (same-question row))
 
   same-log : (l : Log) (row : ℕ) → logCall s l (commit row (encode s given)) ≡ logCall s l (program row given)
   same-log l row = ap (λ n. ifTaken n (logWritten row (encode s given) l) l) (same-question row)
@@ -88,8 +92,8 @@ unfolding askCall
 commitClaim s before between row given buffer taken to =
     let mem : Memory = run s before .memory in
     let none = call-taken _ buffer mem _ taken in
-    let parts = cells-parts s (length (mem .cells)) (askArguments s row given buffer) none in
-    let p : Programs s row given = ask-reads s row given buffer (parts .1) .1 in
+    let parts = cells-parts s (length (mem .cells)) (askArguments s row given (length buffer)) none in
+    let p : Programs s row given = ask-reads s row given (length buffer) (parts .1) .1 in
     rw (call-done _ buffer mem _ none) (replaces s (parts .0 .taken) given (p .sized) (p .below) _ to)
 
 -- ---- an accepted commit

@@ -12,8 +12,8 @@ use Rattle.parity.specs.declared.Shape.{Shape}
 use Rattle.cycle_lookup.specs.Lookup.{lookedUp}
 use Rattle.cycle.specs.Record.{cycleAt, isNext}
 use Rattle.cycle.specs.Calls.{State, zeroRows, fresh, started, steppedMemory, stepped}
-use Rattle.array_memory.specs.Memory.{Sized}
-use Rattle.cycle.specs.Run.{start, step, after, runFrom, run}
+use Rattle.array_memory.specs.Lengths.{Sized}
+use Rattle.call_lists.specs.Run.{start, step, after, runFrom, run}
 use Rattle.detection.specs.Claims.{stepsWith, Buffers, CourseClaim, QuestionNineClaim}
 use Rattle.cycle.proofs.CycleRecord.{record-count, record-skip, record-open, record-complete, next-open, next-record}
 use Rattle.cycle.proofs.Steps.{fresh-sized, Tallies, started-tallies, started-sized, start-done, stepped-tallies, stepped-cycle, stepped-sized, step-state}

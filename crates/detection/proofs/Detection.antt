@@ -8,7 +8,7 @@ use Prim.Native.Nat.{ℕ, suc, _-_, _*_, _/_, _≤_, _<_}
 use native.Mathlib.Nat.{le-of-eq, le-trans, div-one, pow-zero}
 use native.Mathlib.Omega.{arith}
 use lib.Dec.{eqb}
-use lib.ListN.{length, getD}
+use lib.ListN.{length, getD, take}
 use borrow.Author.Tests.{eq-eqb, ne-eqb}
 use Rattle.parity.specs.Lists.{differences}
 use Rattle.parity.specs.Shape.{levels}
@@ -17,16 +17,18 @@ use Rattle.parity.specs.Codeword.{Codeword, isCodeword}
 use Rattle.parity.specs.Questions.{Taken}
 use Rattle.parity.specs.declared.Shape.{Shape}
 use Rattle.schedule.specs.Coarse.{floors, BalancedFrom, isBalancedFrom}
+use Rattle.schedule.specs.Schedule.{schedule}
+use Rattle.schedule.specs.Tally.{tallyRun, freshTally}
 use Rattle.schedule.proofs.Balanced.{balancedClaim, sound-test}
 use Rattle.schedule.proofs.Coarse.{floors-nearer, floors-zero, floors-equal, floors-balanced}
 use Rattle.cycle.specs.Calls.{State}
 use Rattle.cycle.specs.declared.Cycle.{Cycle}
-use Rattle.cycle.specs.Run.{Call, run}
+use Rattle.call_lists.specs.Run.{Call, run}
 use Rattle.detection.specs.Log.{Course, none, open-cycle, ended, Log, log}
-use Rattle.detection.specs.Claims.{phaseOf, RightFlag, wroteAt, standsAt, DetectionClaim, DemandClaim, CoarseClaim, LevelsClaim}
+use Rattle.detection.specs.Claims.{coursePhase, RightFlag, wroteAt, standsAt, DetectionClaim, DemandClaim, CoarseClaim, LevelsClaim}
 use Rattle.cycle.proofs.CycleRecord.{record-open, record-complete}
-use Rattle.cycle.proofs.Steps.{tallies-ended}
-use Rattle.detection.proofs.Agreement.{Cells, InCourse, Agrees, cells-below, written-row, standing-row, row-stands, agrees-fresh}
+use Rattle.cycle.proofs.Steps.{tallyAt, tallies-ended}
+use Rattle.detection.proofs.Agreement.{Cells, Running, InCourse, Agrees, cells-below, written-row, standing-row, row-stands, agrees-fresh}
 use Rattle.detection.proofs.Keeping.{agrees-run}
 use Rattle.detection.proofs.Marks.{unmarkedClaim}
 
@@ -83,7 +85,7 @@ module _ (s : Shape) (t : Taken s) where
 
   -- what the log's cycle says of the record: its phase, its count, the digits that it skips, and where the count is
   pub record Counted (cycle : Cycle) (k : Course) (z c : ℕ) : Type 0 where
-    pub phase : cycle .phase ≡ phaseOf k
+    pub phase : cycle .phase ≡ coursePhase k
     pub count : cycle .count ≡ c
     pub skip : cycle .skip ≡ z
     pub open-below : k ≡ open-cycle → c < cycleSteps z s
@@ -115,51 +117,70 @@ module _ (s : Shape) (t : Taken s) where
         ended-at = λ e. f .1;
       }
 
-  module _ (st : State) (l : Log) (a : Agrees s st l) (e : l .course ≡ ended) where
-    course-ended : InCourse s st ended (l .skip) (l .count) (l .changed)
-    course-ended = subst (λ k. InCourse s st k (l .skip) (l .count) (l .changed)) e (a .course)
+  -- a cycle that is open or has ended is running
+  running : (st : State) (k : Course) (z c : ℕ) (changed : Bool) → k ≢ none → InCourse s st k z c changed → Running s st z c changed
+  running st none z c changed some f = absurd (some refl)
+  running st open-cycle z c changed some f = f .0
+  running st ended z c changed some f = f .0
+
+  -- .. and where nothing has changed since its start, each row's tally is that of the lookups made so far
+  still-tally :
+      (st : State) (l : Log) (a : Agrees s st l) → l .cycle .course ≢ none → l .marks .changed ≡ false → (i : ℕ) → i < s .rows
+      → let made = take (l .cycle .count) (schedule (l .cycle .skip) s) in
+      tallyAt st i ≡ tallyRun s (getD (l .rows .lines) i 0) (getD (l .rows .standing) i []) made freshTally
+  still-tally st l a some off i h =
+      let made = take (l .cycle .count) (schedule (l .cycle .skip) s) in
+      running st (l .cycle .course) (l .cycle .skip) (l .cycle .count) (l .marks .changed) some (a .course) .tallies off i h
+      ∙ ap₂ (λ lines row. tallyRun s (getD lines i 0) row made freshTally) (a .lines) (row-stands s _ _ _ (a .rows) i h)
+
+  module _ (st : State) (l : Log) (a : Agrees s st l) (e : l .cycle .course ≡ ended) where
+    course-ended : InCourse s st ended (l .cycle .skip) (l .cycle .count) (l .marks .changed)
+    course-ended = subst (λ k. InCourse s st k (l .cycle .skip) (l .cycle .count) (l .marks .changed)) e (a .course)
 
     -- at the end of a cycle in which nothing has changed the flags say which rows have a dead line or a digit sum from z on that is not 0 ..
     pub ended-flag :
-        l .changed ≡ false → (i : ℕ) → i < s .rows
-        → getD (st .memory .flags) i 0 ≡ cond (eqb (getD (l .lines) i 0) 0 && isBalancedFrom (l .skip) s (getD (l .standing) i [])) 0 1
+        l .marks .changed ≡ false → (i : ℕ) → i < s .rows
+        → getD (st .memory .flags) i 0 ≡ cond (eqb (getD (l .rows .lines) i 0) 0 && isBalancedFrom (l .cycle .skip) s (getD (l .rows .standing) i [])) 0 1
     ended-flag off i h =
         let f = course-ended in
         let row = row-stands s _ _ _ (a .rows) i h in
-        let c : Cells s (getD (l .standing) i []) = standing-row s _ _ _ (a .rows) i h in
-        tallies-ended s st t (l .skip) (rw (f .1) at (f .0 .tallies off)) i h (ap length row ∙ c .sized) (rw row (c .below))
-        ∙ ap₂ (λ lines r. cond (eqb (getD lines i 0) 0 && isBalancedFrom (l .skip) s r) 0 1) (a .lines) row
+        let c : Cells s (getD (l .rows .standing) i []) = standing-row s _ _ _ (a .rows) i h in
+        tallies-ended s st t (l .cycle .skip) (rw (f .1) at (f .0 .tallies off)) i h (ap length row ∙ c .sized) (rw row (c .below))
+        ∙ ap₂ (λ lines r. cond (eqb (getD lines i 0) 0 && isBalancedFrom (l .cycle .skip) s r) 0 1) (a .lines) row
 
     -- .. and where no digit was skipped, which rows have a dead line or are not sound
     pub ended-sound :
-        l .skip ≡ 0 → l .changed ≡ false → (i : ℕ) → i < s .rows
-        → getD (st .memory .flags) i 0 ≡ cond (eqb (getD (l .lines) i 0) 0 && isCodeword s (getD (l .standing) i [])) 0 1
+        l .cycle .skip ≡ 0 → l .marks .changed ≡ false → (i : ℕ) → i < s .rows
+        → getD (st .memory .flags) i 0 ≡ cond (eqb (getD (l .rows .lines) i 0) 0 && isCodeword s (getD (l .rows .standing) i [])) 0 1
     ended-sound fine off i h =
-        let standing : List ℕ = getD (l .standing) i [] in
+        let standing : List ℕ = getD (l .rows .standing) i [] in
         let c : Cells s standing = standing-row s _ _ _ (a .rows) i h in
         ended-flag off i h
-        ∙ ap (λ z. cond (eqb (getD (l .lines) i 0) 0 && isBalancedFrom z s standing) 0 1) fine
-        ∙ ap (λ b. cond (eqb (getD (l .lines) i 0) 0 && b) 0 1) (sound-test s standing (c .sized) (c .below))
+        ∙ ap (λ z. cond (eqb (getD (l .rows .lines) i 0) 0 && isBalancedFrom z s standing) 0 1) fine
+        ∙ ap (λ b. cond (eqb (getD (l .rows .lines) i 0) 0 && b) 0 1) (sound-test s standing (c .sized) (c .below))
 
 pub detectionClaim : DetectionClaim
 detectionClaim s t calls =
     let st : State = run s calls in
     let l : Log = log s calls in
     let a : Agrees s st l = agrees s t calls in
-    let k = counted s t st (l .course) (l .skip) (l .count) (l .changed) (a .course) in
+    let k = counted s t st (l .cycle .course) (l .cycle .skip) (l .cycle .count) (l .marks .changed) (a .course) in
     record {
       cells = a .rows .laid;
       lines = a .lines;
+      sound = written-row s _ _ _ (a .rows);
       phase = k .phase;
       count = k .count;
       skip = k .skip;
       open-below = λ e. rw (k .count) (k .open-below e);
       ended-at = λ e. k .count ∙ k .ended-at e;
+      tallied = λ (some, off). still-tally s t st l a some off;
+      told = λ (is, off). ended-flag s t st l a is off;
       verdict =
           λ (is, off) i h near.
-          right-flag s t (l .skip) (course-ended s t st l a is .0 .partial) (getD (l .lines) i 0) (getD (l .written) i []) (getD (l .standing) i [])
+          right-flag s t (l .cycle .skip) (course-ended s t st l a is .0 .partial) (getD (l .rows .lines) i 0) (getD (l .rows .written) i []) (getD (l .rows .standing) i [])
           (getD (st .memory .flags) i 0) (written-row s _ _ _ (a .rows) i h) (standing-row s _ _ _ (a .rows) i h) near (ended-flag s t st l a is off i h);
-      dead = λ (is, off) i h dead. ended-flag s t st l a is off i h ∙ dead-flag (getD (l .lines) i 0) dead _;
+      dead = λ (is, off) i h dead. ended-flag s t st l a is off i h ∙ dead-flag (getD (l .rows .lines) i 0) dead _;
     }
 
 -- where no digit is skipped the cycle has (q − 1) × W tests
@@ -180,7 +201,7 @@ whole-rows z e s line x y flag r =
 
 pub coarseClaim : CoarseClaim
 coarseClaim s t calls still i h near =
-    let z = log s calls .skip in
+    let z = log s calls .cycle .skip in
     detectionClaim s t calls .verdict (unmarkedClaim s calls still) i h (le-trans (floors-nearer z s (wroteAt s calls i) (standsAt s calls i)) near)
 
 pub demandClaim : DemandClaim

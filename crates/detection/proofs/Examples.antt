@@ -1,6 +1,6 @@
 -- The examples, computed. Assumes nothing.
 use mathlib.Core.Path.{refl}
-use Rattle.parity.specs.Shape.{digit, levels, largest, limit, redundancy, checks, columns}
+use Rattle.parity.specs.Shape.{digit, levels, largest, limit, redundancy, checks, columns, cellCount}
 use Rattle.parity.specs.Matrix.{weight, ofWeight, columnOrder, eligible, ruleColumns, checkColumns, matrix, support, matrixOnes, lookups}
 use Rattle.parity.specs.Codeword.{isCodeword, number, checkDigit, checkCell, encode}
 use Rattle.parity.specs.Match.{matchByte, lineMatch, taskVector}
@@ -9,17 +9,17 @@ use Rattle.schedule.specs.Tally.{counted, flagged, reset}
 use Rattle.shape.specs.Answers.{calling}
 use Rattle.array_memory.specs.Blocks.{blocksOf, blockAt, countFlagged, blockTotals}
 use Rattle.array_memory.specs.Geometry.{rowAt, withRow, rowMatch, matchBytes}
-use Rattle.array_memory.specs.Memory.{cellCount}
 use Rattle.array.specs.Calls.{drifted, driftCall, lineSet, lineCall, rowWritten, askCall}
 use Rattle.array_lookup.specs.Lookups.{taskMatches, taskCount, lookupCall}
 use Rattle.cycle_place.specs.Places.{entryAt, nextAt, isPlaceOf}
 use Rattle.cycle_lookup.specs.Lookup.{entryMatches, countedRows, flaggedRows, totalledBlocks, resetRows, lookedUp}
 use Rattle.cycle.specs.Record.{cycleAt, isNext}
 use Rattle.cycle.specs.Calls.{zeroRows, cleared, fresh, programCall, commitCall, started, startCall, stepMatches, steppedMemory, stepped, stepCall}
-use Rattle.cycle.specs.Run.{run}
+use Rattle.call_lists.specs.Run.{run}
 use Rattle.detection.specs.Log.{blank, log}
-use Rattle.detection.specs.Examples.{ExamplesClaim, examples, LineExamplesClaim, lineExamples, CoarseExamplesClaim, coarseCycle, OpeningExampleClaim}
-use Rattle.detection.specs.Examples.{AskExampleClaim, asking, CommitExampleClaim}
+use Rattle.detection.specs.Examples.{ExamplesClaim, examples, DriftExamplesClaim, drifting, LineExamplesClaim, lineExamples}
+use Rattle.detection.specs.Examples.{CoarseExamplesClaim, coarseCycle, OpeningExampleClaim}
+use Rattle.detection.specs.Examples.{AskExampleClaim, asking, CommitExampleClaim, RefusedExampleClaim, refusedCalls}
 
 pub examplesClaim : ExamplesClaim
 unfolding
@@ -30,6 +30,16 @@ unfolding
     number checkDigit checkCell encode weight ofWeight columnOrder eligible ruleColumns checkColumns matrix support matrixOnes lookups
     digit levels largest limit redundancy checks columns
 examplesClaim = refl
+
+pub driftExamplesClaim : DriftExamplesClaim
+unfolding
+    drifting run log blank calling zeroRows cleared fresh programCall driftCall startCall stepCall started stepped steppedMemory drifted rowWritten
+    entryMatches countedRows flaggedRows totalledBlocks resetRows lookedUp stepMatches entryAt nextAt isPlaceOf cycleAt isNext
+    cellCount blocksOf blockAt countFlagged blockTotals rowAt withRow rowMatch matchBytes counted flagged reset factors ofDigit ofCheck tests schedule
+    unitVector testVector matchByte lineMatch
+    number checkDigit checkCell encode weight ofWeight columnOrder eligible ruleColumns checkColumns matrix support matrixOnes lookups
+    digit levels largest limit redundancy checks columns
+driftExamplesClaim = refl
 
 pub lineExamplesClaim : LineExamplesClaim
 unfolding
@@ -73,3 +83,13 @@ unfolding
     run calling zeroRows cleared fresh programCall commitCall askCall rowWritten cellCount blocksOf rowAt withRow isCodeword number checkDigit checkCell encode
     weight ofWeight columnOrder eligible ruleColumns checkColumns matrix support digit levels largest limit redundancy checks columns
 commitExampleClaim = record { changed = refl; finished = refl; unsound = refl; high = refl }
+
+pub refusedExampleClaim : RefusedExampleClaim
+unfolding
+    refusedCalls run calling zeroRows cleared fresh programCall commitCall driftCall lineCall startCall stepCall started stepped steppedMemory rowWritten
+    drifted lineSet entryMatches countedRows flaggedRows totalledBlocks resetRows lookedUp stepMatches entryAt nextAt isPlaceOf cycleAt isNext
+    cellCount blocksOf blockAt countFlagged blockTotals rowAt withRow rowMatch matchBytes counted flagged reset factors ofDigit ofCheck tests schedule
+    unitVector testVector matchByte lineMatch isCodeword
+    number checkDigit checkCell encode weight ofWeight columnOrder eligible ruleColumns checkColumns matrix support matrixOnes lookups
+    digit levels largest limit redundancy checks columns
+refusedExampleClaim = record { numbers = refl; closed = refl }

@@ -1,5 +1,6 @@
 -- December's shutdown: after a cycle that skips no digit and in which nothing has changed, and with sound lines, programming every flagged row again
--- from what was last written restores every row within τ cells of it, and a whole cycle more flags no row. Assumes nothing.
+-- from what was last written restores every row, where those that were not flagged were within τ cells of it, and a whole cycle more flags no row.
+-- Assumes nothing.
 use mathlib.Core.Path.{_≡_, refl, sym, ap, ap₂, _∙_}
 use mathlib.Core.Logic.{⊎-elim}
 use mathlib.Core.Bool.{Bool, true, false, cond, _&&_, and-eq-true-iff}
@@ -24,11 +25,12 @@ use Rattle.parity.proofs.Distance.{distanceClaim}
 use Rattle.schedule.specs.Coarse.{isBalancedFrom}
 use Rattle.schedule.proofs.Balanced.{codeword-balanced}
 use Rattle.cycle.specs.Calls.{State, fresh}
-use Rattle.cycle.specs.Run.{Call, start, program, runFrom, run}
+use Rattle.call_lists.specs.Run.{Call, start, program, runFrom, run}
 use Rattle.detection.specs.Log.{ended, Log, blank, logWritten, logCall, logFrom, log}
 use Rattle.detection.specs.Claims.{stepsWith, Buffers, repair, ShutdownClaim}
 use Rattle.detection.proofs.Elements.{at-set}
-use Rattle.cycle.proofs.Runs.{followed-append, run-append}
+use Rattle.parity.proofs.Followed.{followed-append}
+use Rattle.call_lists.proofs.Runs.{run-append}
 use Rattle.array_questions.specs.Questions.{programArguments}
 use Rattle.array_questions.proofs.Asked.{Programs, program-fits}
 use Rattle.detection.proofs.Still.{stillClaim}
@@ -46,8 +48,8 @@ flag-zero false e = absurd (omega arith)
 
 -- where all lines and all rows as they stand are sound, a cycle flags none
 sound-cycle :
-    (s : Shape) → Taken s → (st : State) (l : Log) → Agrees s st l → ((i : ℕ) → i < s .rows → getD (l .lines) i 0 ≡ 0)
-    → ((i : ℕ) → i < s .rows → Codeword s (getD (l .standing) i []))
+    (s : Shape) → Taken s → (st : State) (l : Log) → Agrees s st l → ((i : ℕ) → i < s .rows → getD (l .rows .lines) i 0 ≡ 0)
+    → ((i : ℕ) → i < s .rows → Codeword s (getD (l .rows .standing) i []))
     → (z : ℕ) → z < s .digits → (buffers : List (List ℕ)) → Buffers s buffers → length buffers ≡ cycleSteps z s
     → runFrom s st (start z ∷ stepsWith buffers) .memory .flags ≡ replicate (s .rows) 0
 sound-cycle s t st l a lines sound z lt buffers made whole =
@@ -61,7 +63,7 @@ sound-cycle s t st l a lines sound z lt buffers made whole =
 module _ (s : Shape) (t : Taken s) (st : State) (l : Log) (a : Agrees s st l) where
   -- row i as it was last written
   abbrev wrote : ℕ → List ℕ
-  wrote i = getD (l .written) i []
+  wrote i = getD (l .rows .written) i []
 
   module _ (i : ℕ) (h : i < s .rows) where
     wrote-sound : Codeword s (wrote i)
@@ -82,16 +84,16 @@ module _ (s : Shape) (t : Taken s) (st : State) (l : Log) (a : Agrees s st l) wh
     again-same = sym (encodingClaim s t (wrote i) (wrote-sound .sized) .0 wrote-sound .0)
 
   module _
-      (e : l .course ≡ ended) (fine : l .skip ≡ 0) (off : l .changed ≡ false) (lines : (i : ℕ) → i < s .rows → getD (l .lines) i 0 ≡ 0)
-      (near : (i : ℕ) → i < s .rows → differences (wrote i) (getD (l .standing) i []) ≤ s .errors) where
+      (e : l .cycle .course ≡ ended) (fine : l .cycle .skip ≡ 0) (off : l .marks .changed ≡ false) (lines : (i : ℕ) → i < s .rows → getD (l .rows .lines) i 0 ≡ 0)
+      (near : (i : ℕ) → i < s .rows → getD (st .memory .flags) i 0 ≡ 0 → differences (wrote i) (getD (l .rows .standing) i []) ≤ s .errors) where
     -- a row that is not flagged is sound, and so it is the one that was written
-    unflagged-same : (i : ℕ) → i < s .rows → getD (st .memory .flags) i 0 ≡ 0 → getD (l .standing) i [] ≡ wrote i
+    unflagged-same : (i : ℕ) → i < s .rows → getD (st .memory .flags) i 0 ≡ 0 → getD (l .rows .standing) i [] ≡ wrote i
     unflagged-same i h zero-flag =
-        let standing : List ℕ = getD (l .standing) i [] in
+        let standing : List ℕ = getD (l .rows .standing) i [] in
         let sound : Codeword s standing = codeword-test s standing
-        (and-eq-true-iff (eqb (getD (l .lines) i 0) 0) (isCodeword s standing) .0
+        (and-eq-true-iff (eqb (getD (l .rows .lines) i 0) 0) (isCodeword s standing) .0
         (flag-zero _ (sym (ended-sound s t st l a e fine off i h) ∙ zero-flag)) .1) in
-        sym (distanceClaim s t (wrote i) standing (wrote-sound i h) sound (near i h))
+        sym (distanceClaim s t (wrote i) standing (wrote-sound i h) sound (near i h zero-flag))
 
     -- the repair of the first n rows
     abbrev part : ℕ → List Call
@@ -100,7 +102,7 @@ module _ (s : Shape) (t : Taken s) (st : State) (l : Log) (a : Agrees s st l) wh
     -- after it these stand as they were written, and of the others those that were not flagged
     repaired :
         (n : ℕ) → n ≤ s .rows → (i : ℕ) → i < s .rows → (n ≤ i → getD (st .memory .flags) i 0 ≡ 0)
-        → getD (logFrom s l (part n) .standing) i [] ≡ wrote i
+        → getD (logFrom s l (part n) .rows .standing) i [] ≡ wrote i
     repaired zero h i k unflagged = unflagged-same i k (unflagged (omega arith))
     repaired (suc n) h i k unflagged =
         rw (log-append s (part n) _ l)
@@ -113,21 +115,21 @@ module _ (s : Shape) (t : Taken s) (st : State) (l : Log) (a : Agrees s st l) wh
         before = logFrom s l (part n)
 
         go : (b : Bool) → eqb (getD (st .memory .flags) n 0) 0 ≡ b
-            → ((n ≤ i → getD (st .memory .flags) i 0 ≡ 0) → getD (before .standing) i [] ≡ wrote i)
-            → getD (logFrom s before (cond b [] (program n given ∷ [])) .standing) i [] ≡ wrote i
+            → ((n ≤ i → getD (st .memory .flags) i 0 ≡ 0) → getD (before .rows .standing) i [] ≡ wrote i)
+            → getD (logFrom s before (cond b [] (program n given ∷ [])) .rows .standing) i [] ≡ wrote i
         go true q rest =
             rest λ le. ⊎-elim (λ same. ap (λ j. getD (st .memory .flags) j 0) (sym same) ∙ eqb-true _ 0 q) unflagged (eq-or-lt-of-le le)
         go false q rest =
             rw (program-fits s n given (again n h))
-            (at-set (λ row. row ≡ wrote i) (before .standing) n (encode s given) [] i (rw (agrees-run s t (part n) st l a .rows .standingCount) h)
+            (at-set (λ row. row ≡ wrote i) (before .rows .standing) n (encode s given) [] i (rw (agrees-run s t (part n) st l a .rows .standingCount) h)
             (λ same. again-same n h ∙ ap wrote (sym same)) (λ apart. rest (λ le. unflagged (omega arith))))
 
     -- after the whole repair all do
-    restored-row : (i : ℕ) → i < s .rows → getD (logFrom s l (part (s .rows)) .standing) i [] ≡ wrote i
+    restored-row : (i : ℕ) → i < s .rows → getD (logFrom s l (part (s .rows)) .rows .standing) i [] ≡ wrote i
     restored-row i h = repaired (s .rows) (omega arith) i h (λ past. absurd (omega arith))
 
     -- programming leaves the lines
-    repaired-lines : (n : ℕ) → logFrom s l (part n) .lines ≡ l .lines
+    repaired-lines : (n : ℕ) → logFrom s l (part n) .rows .lines ≡ l .rows .lines
     repaired-lines zero = refl
     repaired-lines (suc n) = rw (log-append s (part n) _ l) (go (eqb (getD (st .memory .flags) n 0) 0) ∙ repaired-lines n)
       where
@@ -137,11 +139,11 @@ module _ (s : Shape) (t : Taken s) (st : State) (l : Log) (a : Agrees s st l) wh
         before : Log
         before = logFrom s l (part n)
 
-        either : (n′ : ℕ) → ifTaken n′ (logWritten n (encode s given) before) before .lines ≡ before .lines
+        either : (n′ : ℕ) → ifTaken n′ (logWritten n (encode s given) before) before .rows .lines ≡ before .rows .lines
         either zero = refl
         either (suc n′) = refl
 
-        go : (b : Bool) → logFrom s before (cond b [] (program n given ∷ [])) .lines ≡ before .lines
+        go : (b : Bool) → logFrom s before (cond b [] (program n given ∷ [])) .rows .lines ≡ before .rows .lines
         go true = refl
         go false = either (firstNo (programArguments s n given))
 
@@ -159,10 +161,10 @@ shutdownClaim s t calls (is, off) fine lines near z lt buffers made whole =
     let st : State = run s calls in
     let l : Log = log s calls in
     let a : Agrees s st l = agrees s t calls in
-    let repairs : List Call = repair s (st .memory .flags) (l .written) in
+    let repairs : List Call = repair s (st .memory .flags) (l .rows .written) in
     let cycle : List Call = start z ∷ stepsWith buffers in
     record {
-      restored = λ i h. ap (λ k. getD (k .standing) i []) (log-append s calls repairs (blank s)) ∙ restored-row s t st l a is fine off lines near i h;
+      restored = λ i h. ap (λ k. getD (k .rows .standing) i []) (log-append s calls repairs (blank s)) ∙ restored-row s t st l a is fine off lines near i h;
       quiet =
           ap (λ k. k .memory .flags) (run-append s (fresh s) (calls ++ repairs) cycle ∙ ap (λ k. runFrom s k cycle) (run-append s (fresh s) calls repairs))
           ∙ quiet-cycle s t st l a is fine off lines near z lt buffers made whole;

@@ -9,7 +9,7 @@ use lib.Dec.{eqb}
 use lib.ListN.{getD}
 use lib.Seq.{getD-take, getD-drop, ext-getD}
 use Rattle.parity.specs.Lists.{tabulate}
-use Rattle.parity.specs.Shape.{levels, columns}
+use Rattle.parity.specs.Shape.{levels, columns, cellCount}
 use Rattle.parity.specs.Matrix.{cycleSteps}
 use Rattle.parity.specs.Claims.{Below}
 use Rattle.parity.specs.Questions.{Taken}
@@ -19,7 +19,6 @@ use Rattle.parity.proofs.ListLaws.{length-tabulate, getD-tabulate, tabulate-sam
 use Rattle.schedule.specs.Coarse.{isBalancedFrom}
 use Rattle.schedule.proofs.Balanced.{sound-test}
 use Rattle.array_memory.specs.Geometry.{rowAt}
-use Rattle.array_memory.specs.Memory.{cellCount}
 use Rattle.array_memory.proofs.RowPlaces.{row-fits, row-sized}
 use Rattle.cycle.specs.Calls.{State}
 use Rattle.detection.specs.Claims.{StillClaim, StillSoundClaim}

@@ -9,7 +9,7 @@ use Rattle.shape.specs.Answers.{Result}
 use Rattle.array_memory.specs.Memory.{Memory}
 use Rattle.array.specs.Calls.{askCall}
 use Rattle.cycle.specs.Calls.{State, programCall, commitCall}
-use Rattle.cycle.specs.Run.{Call, program, ask, commit, run}
+use Rattle.call_lists.specs.Run.{Call, program, ask, commit, run}
 use Rattle.detection.specs.Log.{log}
 
 -- all that an ask gives after a list of calls, and all that a commit and a program give there

@@ -1,5 +1,6 @@
--- The claim is not empty: four lists at a small shape (ρ 2, b 1, τ 1, k 1, m 2: n is 2 and a cycle has 3 steps), four more there with lines, and four
--- with coarse cycles at a shape of three digits, with what they leave; there the opening step itself; and ask and commit at both shapes.
+-- The claim is not empty: four lists at a small shape (ρ 2, b 1, τ 1, k 1, m 2: n is 2 and a cycle has 3 steps), two there with a drift in a cycle,
+-- four with lines, and four with coarse cycles at a shape of three digits, with what they leave; there the opening step itself; ask and commit at both
+-- shapes; and the numbers of refused calls.
 use mathlib.Core.Path.{_≡_}
 use mathlib.Core.Bool.{Bool, true, false}
 use mathlib.Core.List.{List, [], _∷_, _++_, map}
@@ -9,34 +10,23 @@ use Rattle.parity.specs.Matrix.{cycleSteps}
 use Rattle.parity.specs.declared.Shape.{Shape}
 use Rattle.array.specs.Calls.{lineCall}
 use Rattle.cycle.specs.Calls.{stepCall}
-use Rattle.cycle.specs.Run.{Call, start, program, ask, commit, drift, line, lookup, step, run}
-use Rattle.detection.specs.Log.{Course, none, ended, log}
+use Rattle.call_lists.specs.Run.{Call, start, program, ask, commit, drift, line, lookup, step, callOf, run}
+use Rattle.detection.specs.Log.{LogCycle, LogMarks, none, ended, log}
 use Rattle.detection.specs.Commits.{asks, commits}
 
 abbrev pub small : Shape
 small = record { radix = 2; digits = 1; errors = 1; width = 1; rows = 2 }
 
--- what is looked at after a list: the flags, the lines, and the log's cycle, the digits that it skips, count and marks
+-- what is looked at after a list: the flags, the lines, and the log's cycle and marks
 pub record Seen : Type 0 where
   pub flags : List ℕ
   pub lines : List ℕ
-  pub course : Course
-  pub skip : ℕ
-  pub count : ℕ
-  pub mark : Bool
-  pub changed : Bool
+  pub cycle : LogCycle
+  pub marks : LogMarks
 
 abbrev pub seen : Shape → List Call → Seen
 seen s calls =
-    record {
-      flags = run s calls .memory .flags;
-      lines = run s calls .memory .lines;
-      course = log s calls .course;
-      skip = log s calls .skip;
-      count = log s calls .count;
-      mark = log s calls .mark;
-      changed = log s calls .changed;
-    }
+    record { flags = run s calls .memory .flags; lines = run s calls .memory .lines; cycle = log s calls .cycle; marks = log s calls .marks }
 
 -- a step with a buffer of two bytes
 abbrev pub stepTwo : Call
@@ -63,14 +53,38 @@ examples =
     ∷ [])
     ∷ []
 
--- a cycle with z that has ended at this count with both marks off, and with sound lines
+-- a cycle with z that has ended at this count, with these flags, lines and marks
+abbrev pub endedAt : ℕ → ℕ → List ℕ → List ℕ → Bool → Bool → Seen
+endedAt z count flags lines mark changed =
+    record {
+      flags = flags;
+      lines = lines;
+      cycle = record { course = ended; skip = z; count = count };
+      marks = record { mark = mark; changed = changed };
+    }
+
+-- .. with sound lines and both marks off
 abbrev pub endedWith : ℕ → ℕ → List ℕ → Seen
-endedWith z count flags = record { flags = flags; lines = 0 ∷ 0 ∷ []; course = ended; skip = z; count = count; mark = false; changed = false }
+endedWith z count flags = endedAt z count flags (0 ∷ 0 ∷ []) false false
 
 abbrev pub ExamplesClaim : Type 0
 ExamplesClaim =
     map (seen small) examples
     ≡ endedWith 0 3 (0 ∷ 1 ∷ []) ∷ endedWith 0 3 (0 ∷ 0 ∷ []) ∷ endedWith 0 3 (0 ∷ 0 ∷ []) ∷ endedWith 0 3 (0 ∷ 1 ∷ []) ∷ []
+
+-- ---- drifts in a cycle
+
+-- Row 1 holds a 1. After the opening, its rule cell is drifted to a level.
+unfoldable pub drifting : ℕ → List Call
+drifting level = program 1 (1 ∷ []) ∷ start 0 ∷ stepTwo ∷ drift 1 0 level ∷ stepTwo ∷ stepTwo ∷ []
+
+-- To the level that stands it puts document 01's mark on and not the weaker one, and the flag is right; to another it puts both on.
+abbrev pub DriftExamplesClaim : Type 0
+DriftExamplesClaim =
+    map (λ level. seen small (drifting level)) (1 ∷ 0 ∷ [])
+    ≡ endedAt 0 3 (0 ∷ 0 ∷ []) (0 ∷ 0 ∷ []) true false
+    ∷ endedAt 0 3 (0 ∷ 1 ∷ []) (0 ∷ 0 ∷ []) true true
+    ∷ []
 
 -- ---- lines
 
@@ -84,19 +98,15 @@ lineExamples =
     ∷ (line 1 1 ∷ line 1 0 ∷ line 1 2 ∷ start 0 ∷ stepTwo ∷ stepTwo ∷ stepTwo ∷ [])
     ∷ []
 
--- a cycle that has ended with these flags, lines and marks
-abbrev pub endedLines : List ℕ → List ℕ → Bool → Bool → Seen
-endedLines flags lines mark changed = record { flags = flags; lines = lines; course = ended; skip = 0; count = 3; mark = mark; changed = changed }
-
 -- A dead line is flagged. One that dies in the middle is not, and both marks say so. One that is set to what it was puts document 01's mark on and not
 -- the weaker one, and the flag is right.
 abbrev pub LineExamplesClaim : Type 0
 LineExamplesClaim =
     map (seen small) lineExamples
-    ≡ endedLines (0 ∷ 1 ∷ []) (0 ∷ 1 ∷ []) false false
-    ∷ endedLines (0 ∷ 0 ∷ []) (0 ∷ 1 ∷ []) true true
-    ∷ endedLines (0 ∷ 1 ∷ []) (0 ∷ 1 ∷ []) true false
-    ∷ endedLines (0 ∷ 0 ∷ []) (0 ∷ 0 ∷ []) false false
+    ≡ endedAt 0 3 (0 ∷ 1 ∷ []) (0 ∷ 1 ∷ []) false false
+    ∷ endedAt 0 3 (0 ∷ 0 ∷ []) (0 ∷ 1 ∷ []) true true
+    ∷ endedAt 0 3 (0 ∷ 1 ∷ []) (0 ∷ 1 ∷ []) true false
+    ∷ endedAt 0 3 (0 ∷ 0 ∷ []) (0 ∷ 0 ∷ []) false false
     ∷ []
 
 -- ---- coarse cycles
@@ -116,7 +126,12 @@ CoarseExamplesClaim =
     ≡ endedWith 0 29 (1 ∷ 1 ∷ [])
     ∷ endedWith 1 13 (0 ∷ 1 ∷ [])
     ∷ endedWith 2 5 (0 ∷ 1 ∷ [])
-    ∷ record { flags = 0 ∷ 0 ∷ []; lines = 0 ∷ 0 ∷ []; course = none; skip = 0; count = 0; mark = true; changed = true }
+    ∷ record {
+      flags = 0 ∷ 0 ∷ [];
+      lines = 0 ∷ 0 ∷ [];
+      cycle = record { course = none; skip = 0; count = 0 };
+      marks = record { mark = true; changed = true };
+    }
     ∷ []
 
 -- ---- the opening step
@@ -160,3 +175,29 @@ pub record CommitExampleClaim : Type 0 where
   pub finished : asks threeDigits held 0 (4 ∷ 3 ∷ 1 ∷ []) (7 ∷ 7 ∷ 7 ∷ 7 ∷ []) .bytes ≡ 4 ∷ 3 ∷ 1 ∷ 6 ∷ []
   pub unsound : commits threeDigits held 0 (5 ∷ 2 ∷ 0 ∷ 6 ∷ []) .said .number ≡ 17
   pub high : commits threeDigits held 0 (8 ∷ 0 ∷ 0 ∷ 0 ∷ []) .said .number ≡ 8
+
+-- ---- the numbers of refused calls
+
+-- in an open cycle: a step with a buffer of one byte; a row and a column that are not there; a level of q, beside a row that is there and one that is
+-- not; all digits skipped; a line byte of 2, beside a row that is there and one that is not; and a row that isn't sound
+unfoldable pub refusedCalls : List Call
+refusedCalls =
+    step (7 ∷ [])
+    ∷ program 2 (1 ∷ [])
+    ∷ drift 1 2 0
+    ∷ drift 1 0 2
+    ∷ drift 2 0 2
+    ∷ start 1
+    ∷ line 1 2
+    ∷ line 2 2
+    ∷ commit 1 (1 ∷ 0 ∷ [])
+    ∷ []
+
+-- the number that a call gives after a list of calls
+abbrev pub numberAfter : List Call → Call → ℕ
+numberAfter calls c = callOf small (run small calls) c .said .number
+
+-- A step gets 9 where no cycle is open and where one has ended.
+pub record RefusedExampleClaim : Type 0 where
+  pub numbers : map (numberAfter opened) refusedCalls ≡ 6 ∷ 7 ∷ 7 ∷ 8 ∷ 7 ∷ 15 ∷ 16 ∷ 7 ∷ 17 ∷ []
+  pub closed : map (λ calls. numberAfter calls stepTwo) ([] ∷ (start 0 ∷ stepTwo ∷ stepTwo ∷ stepTwo ∷ []) ∷ []) ≡ 9 ∷ 9 ∷ []

@@ -7,7 +7,8 @@ ghost use mathlib.Core.Path.{_≡_};
 ghost use mathlib.Core.List.{[]};
 ghost use Rattle.shape.specs.Answers.{giving};
 ghost use Rattle.shape.specs.Lent.{was, left};
-ghost use Rattle.array_memory.specs.Memory.{Memory, withCells, withRows, withAll};
+ghost use Rattle.array_memory.specs.Buffers.{wasCells, leftCells, wasRows, leftRows, wasAll, leftAll};
+ghost use Rattle.array_memory.specs.Memory.{Memory};
 ghost use Rattle.cycle.specs.Calls.{clearCall, programCall, commitCall, startCall, stepCall};
 ghost use Rattle.cycle_run.specs.Cycles.{cycleCall};
 ghost use Rattle.ffi_words.specs.Words.{storedOf, onWords};
@@ -24,8 +25,8 @@ pub extern "C" fn jorivelune_clear(
     flags: &mut [u8],
     totals: &mut [u8],
 ) -> u8
-    ensures { λ r. ⌜ ((mem : Memory) → onWords (clearCall shape) (withAll (was cells) (was lines) (was counters) (was flags) (was totals) mem) (was words)
-        ≡ giving (telling r 0) [] (storedOf (withAll (left cells) (left lines) (left counters) (left flags) (left totals) mem) (left words))) ⌝ }
+    ensures { λ r. ⌜ ((mem : Memory) → onWords (clearCall shape) (wasAll cells lines counters flags totals mem) (was words)
+        ≡ giving (telling r 0) [] (storedOf (leftAll cells lines counters flags totals mem) (left words))) ⌝ }
 {
     let cycle = cycle_of(words);
     store(
@@ -43,8 +44,8 @@ pub extern "C" fn jorivelune_program(
     row: usize,
     given: &[u8],
 ) -> u8
-    ensures { λ r. ⌜ ((mem : Memory) → onWords (λ st. programCall shape st row (was given)) (withCells (was cells) mem) (was words)
-        ≡ giving (telling r 0) [] (storedOf (withCells (left cells) mem) (left words))) ⌝ }
+    ensures { λ r. ⌜ ((mem : Memory) → onWords (λ st. programCall shape st row (was given)) (wasCells cells mem) (was words)
+        ≡ giving (telling r 0) [] (storedOf (leftCells cells mem) (left words))) ⌝ }
 {
     let cycle = cycle_of(words);
     store(words, cycle.program(shape, cells, row, given))
@@ -59,8 +60,8 @@ pub extern "C" fn jorivelune_commit(
     row: usize,
     finished: &[u8],
 ) -> u8
-    ensures { λ r. ⌜ ((mem : Memory) → onWords (λ st. commitCall shape st row (was finished)) (withCells (was cells) mem) (was words)
-        ≡ giving (telling r 0) [] (storedOf (withCells (left cells) mem) (left words))) ⌝ }
+    ensures { λ r. ⌜ ((mem : Memory) → onWords (λ st. commitCall shape st row (was finished)) (wasCells cells mem) (was words)
+        ≡ giving (telling r 0) [] (storedOf (leftCells cells mem) (left words))) ⌝ }
 {
     let cycle = cycle_of(words);
     store(words, cycle.commit(shape, cells, row, finished))
@@ -77,8 +78,8 @@ pub extern "C" fn jorivelune_start(
     flags: &mut [u8],
     totals: &mut [u8],
 ) -> u8
-    ensures { λ r. ⌜ ((mem : Memory) → onWords (λ st. startCall shape st skip) (withRows (was counters) (was flags) (was totals) mem) (was words)
-        ≡ giving (telling r 0) [] (storedOf (withRows (left counters) (left flags) (left totals) mem) (left words))) ⌝ }
+    ensures { λ r. ⌜ ((mem : Memory) → onWords (λ st. startCall shape st skip) (wasRows counters flags totals mem) (was words)
+        ≡ giving (telling r 0) [] (storedOf (leftRows counters flags totals mem) (left words))) ⌝ }
 {
     let cycle = cycle_of(words);
     store(words, cycle.start(shape, skip, counters, flags, totals))
@@ -98,8 +99,8 @@ pub extern "C" fn jorivelune_step(
     matches: &mut [u8],
 ) -> u8
     ensures { λ r. ⌜ ((mem : Memory) → onWords (λ st. stepCall shape st (was matches))
-        (withAll (was cells) (was lines) (was counters) (was flags) (was totals) mem) (was words)
-        ≡ giving (telling r 0) (left matches) (storedOf (withAll (was cells) (was lines) (left counters) (left flags) (left totals) mem) (left words))) ⌝ }
+        (wasAll cells lines counters flags totals mem) (was words)
+        ≡ giving (telling r 0) (left matches) (storedOf (leftAll cells lines counters flags totals mem) (left words))) ⌝ }
 {
     let cycle = cycle_of(words);
     store(
@@ -122,8 +123,8 @@ pub extern "C" fn jorivelune_run(
     matches: &mut [u8],
 ) -> u8
     ensures { λ r. ⌜ ((mem : Memory) → onWords (λ st. cycleCall shape st skip (was matches))
-        (withAll (was cells) (was lines) (was counters) (was flags) (was totals) mem) (was words)
-        ≡ giving (telling r 0) (left matches) (storedOf (withAll (was cells) (was lines) (left counters) (left flags) (left totals) mem) (left words))) ⌝ }
+        (wasAll cells lines counters flags totals mem) (was words)
+        ≡ giving (telling r 0) (left matches) (storedOf (leftAll cells lines counters flags totals mem) (left words))) ⌝ }
 {
     let cycle = cycle_of(words);
     store(

@@ -2,7 +2,7 @@
 use array::ask::ask;
 use array::cells::read;
 use array::cells::sound;
-use array::change::drift;
+use array::drift::drift;
 use array::lines::set_line;
 use array_lookup::first::first_match;
 use array_lookup::task::lookup;
@@ -15,7 +15,8 @@ ghost use mathlib.Core.Path.{_≡_};
 ghost use mathlib.Core.List.{[]};
 ghost use Rattle.shape.specs.Answers.{answerSays, outcomeSays, giving};
 ghost use Rattle.shape.specs.Lent.{was, left};
-ghost use Rattle.array_memory.specs.Memory.{Memory, withCells, withLines, withArray};
+ghost use Rattle.array_memory.specs.Buffers.{wasCells, leftCells, wasLines, leftLines, wasArray, leftArray};
+ghost use Rattle.array_memory.specs.Memory.{Memory};
 ghost use Rattle.array.specs.Calls.{askCall, driftCall, lineCall, readCall, soundCall};
 ghost use Rattle.array_lookup.specs.Lookups.{lookupCall, firstCall};
 ghost use Rattle.ffi.specs.Numbers.{telling, foundSays};
@@ -55,8 +56,8 @@ pub extern "C" fn jorivelune_drift(
     column: usize,
     level: u8,
 ) -> u8
-    ensures { λ r. ⌜ ((mem : Memory) → driftCall shape (withCells (was cells) mem) row column level
-        ≡ giving (telling r 0) [] (withCells (left cells) mem)) ⌝ }
+    ensures { λ r. ⌜ ((mem : Memory) → driftCall shape (wasCells cells mem) row column level
+        ≡ giving (telling r 0) [] (leftCells cells mem)) ⌝ }
 {
     number_of(drift(shape, cells, row, column, level))
 }
@@ -64,8 +65,8 @@ pub extern "C" fn jorivelune_drift(
 // Line: one row's match line becomes sound, 0, or dead, 1, and nothing else changes.
 #[no_mangle]
 pub extern "C" fn jorivelune_line(shape: Shape, lines: &mut [u8], row: usize, byte: u8) -> u8
-    ensures { λ r. ⌜ ((mem : Memory) → lineCall shape (withLines (was lines) mem) row byte
-        ≡ giving (telling r 0) [] (withLines (left lines) mem)) ⌝ }
+    ensures { λ r. ⌜ ((mem : Memory) → lineCall shape (wasLines lines mem) row byte
+        ≡ giving (telling r 0) [] (leftLines lines mem)) ⌝ }
 {
     number_of(set_line(shape, lines, row, byte))
 }
@@ -73,8 +74,8 @@ pub extern "C" fn jorivelune_line(shape: Shape, lines: &mut [u8], row: usize, by
 // Read: copies the k rule cells of a row out.
 #[no_mangle]
 pub extern "C" fn jorivelune_read(shape: Shape, cells: &[u8], row: usize, out: &mut [u8]) -> u8
-    ensures { λ r. ⌜ ((mem : Memory) → readCall shape (withCells (was cells) mem) row (was out)
-        ≡ giving (telling r 0) (left out) (withCells (was cells) mem)) ⌝ }
+    ensures { λ r. ⌜ ((mem : Memory) → readCall shape (wasCells cells mem) row (was out)
+        ≡ giving (telling r 0) (left out) (leftCells cells mem)) ⌝ }
 {
     number_of(read(shape, cells, row, out))
 }
@@ -90,8 +91,8 @@ pub extern "C" fn jorivelune_ask(
     finished: &mut [u8],
     changed: &mut usize,
 ) -> u8
-    ensures { λ r. ⌜ ((mem : Memory) → askCall shape (withCells (was cells) mem) row (was given) (was finished)
-        ≡ giving (telling r (left changed)) (left finished) (withCells (was cells) mem)) ⌝ }
+    ensures { λ r. ⌜ ((mem : Memory) → askCall shape (wasCells cells mem) row (was given) (was finished)
+        ≡ giving (telling r (left changed)) (left finished) (leftCells cells mem)) ⌝ }
 {
     tell(ask(shape, cells, row, given, finished), changed)
 }
@@ -106,8 +107,8 @@ pub extern "C" fn jorivelune_lookup(
     matches: &mut [u8],
     count: &mut usize,
 ) -> u8
-    ensures { λ r. ⌜ ((mem : Memory) → lookupCall shape (withArray (was cells) (was lines) mem) (was inputs) (was matches)
-        ≡ giving (telling r (left count)) (left matches) (withArray (was cells) (was lines) mem)) ⌝ }
+    ensures { λ r. ⌜ ((mem : Memory) → lookupCall shape (wasArray cells lines mem) (was inputs) (was matches)
+        ≡ giving (telling r (left count)) (left matches) (leftArray cells lines mem)) ⌝ }
 {
     tell(lookup(shape, cells, lines, inputs, matches), count)
 }
@@ -121,7 +122,7 @@ pub extern "C" fn jorivelune_first_match(
     inputs: &[u8],
     found: &mut usize,
 ) -> u8
-    ensures { λ r. ⌜ ((mem : Memory) → foundSays (shape .rows) (firstCall shape (withArray (was cells) (was lines) mem) (was inputs))
+    ensures { λ r. ⌜ ((mem : Memory) → foundSays (shape .rows) (firstCall shape (wasArray cells lines mem) (was inputs))
         ≡ telling r (left found)) ⌝ }
 {
     match first_match(shape, cells, lines, inputs) {
@@ -143,7 +144,7 @@ pub extern "C" fn jorivelune_first_match(
 // Sound: whether the row is sound goes to `holds`, false where the call is refused.
 #[no_mangle]
 pub extern "C" fn jorivelune_sound(shape: Shape, cells: &[u8], row: usize, holds: &mut bool) -> u8
-    ensures { λ r. ⌜ ((mem : Memory) → soundCall shape (withCells (was cells) mem) row ≡ telling r (left holds)) ⌝ }
+    ensures { λ r. ⌜ ((mem : Memory) → soundCall shape (wasCells cells mem) row ≡ telling r (left holds)) ⌝ }
 {
     match sound(shape, cells, row) {
         Verdict::Yes => {

@@ -3,8 +3,9 @@ use panel::panel;
 use parity::Shape;
 use shape::answer::First;
 ghost use mathlib.Core.Path.{_≡_};
-ghost use Rattle.shape.specs.Lent.{was, left};
-ghost use Rattle.array_memory.specs.Memory.{Memory, withFlagged};
+ghost use Rattle.shape.specs.Lent.{left};
+ghost use Rattle.array_memory.specs.Buffers.{wasFlagged};
+ghost use Rattle.array_memory.specs.Memory.{Memory};
 ghost use Rattle.panel.specs.Panel.{panelCall};
 ghost use Rattle.ffi.specs.Numbers.{telling, shown, readingSays};
 
@@ -19,7 +20,7 @@ pub extern "C" fn jorivelune_panel(
     first: &mut usize,
     read: &mut usize,
 ) -> u8
-    ensures { λ r. ⌜ ((mem : Memory) → readingSays (shape .rows) (panelCall shape (withFlagged (was flags) (was totals) mem))
+    ensures { λ r. ⌜ ((mem : Memory) → readingSays (shape .rows) (panelCall shape (wasFlagged flags totals mem))
         ≡ telling r (shown (left total) (left first) (left read))) ⌝ }
 {
     let told = panel(shape, flags, totals);

@@ -9,47 +9,48 @@ use lib.Dec.{leb}
 use lib.ListN.{length, drop}
 use borrow.Author.Tests.{leb-true}
 use Rattle.parity.specs.Questions.{ifTaken}
-use Rattle.shape.specs.Answers.{accepted, giving}
+use Rattle.shape.specs.Answers.{Said, giving}
 use Rattle.shape.proofs.Calling.{if-no}
 use Rattle.cycle.specs.Calls.{State}
-use Rattle.job_parse.specs.Parse.{jobShape, jobRefusal}
+use Rattle.job_parse.specs.Parse.{jobShape, mostCells, jobRefusal}
 use Rattle.job_text.specs.Text.{refusedText}
 use Rattle.job_text.specs.Written.{written, Wrote}
-use Rattle.job.specs.Job.{jobState, jobMatches, reportText, jobText, Space, space, enough, roomy, withRun, printed, jobCall}
+use Rattle.job.specs.Job.{jobRun, jobState, jobMatches, reportText, jobText, Space, space, mostRows, mostTotals, mostText, enough, roomy}
+use Rattle.job.specs.Job.{withRun, printed, jobCall}
 
 -- buffers that are long enough
 pub record Room (sp : Space) : Type 0 where
-  pub cells : 16384 ≤ length (sp .cells)
-  pub lines : 4096 ≤ length (sp .lines)
-  pub counters : 4096 ≤ length (sp .counters)
-  pub flags : 4096 ≤ length (sp .flags)
-  pub totals : 64 ≤ length (sp .totals)
-  pub matches : 4096 ≤ length (sp .matches)
-  pub out : 200000 ≤ length (sp .out)
+  pub cells : mostCells ≤ length (sp .cells)
+  pub lines : mostRows ≤ length (sp .lines)
+  pub counters : mostRows ≤ length (sp .counters)
+  pub flags : mostRows ≤ length (sp .flags)
+  pub totals : mostTotals ≤ length (sp .totals)
+  pub matches : mostRows ≤ length (sp .matches)
+  pub out : mostText ≤ length (sp .out)
 
 pub room : (sp : Space) → roomy sp ≡ true → Room sp
 unfolding enough
 room sp e =
-    let one = leb 16384 (length (sp .cells)) in
-    let two = leb 4096 (length (sp .lines)) in
-    let three = leb 4096 (length (sp .counters)) in
-    let four = leb 4096 (length (sp .flags)) in
-    let five = leb 64 (length (sp .totals)) in
-    let six = leb 4096 (length (sp .matches)) in
-    let to-seven = and-eq-true-iff (one && two && three && four && five && six) (leb 200000 (length (sp .out))) .0 e in
+    let one = leb mostCells (length (sp .cells)) in
+    let two = leb mostRows (length (sp .lines)) in
+    let three = leb mostRows (length (sp .counters)) in
+    let four = leb mostRows (length (sp .flags)) in
+    let five = leb mostTotals (length (sp .totals)) in
+    let six = leb mostRows (length (sp .matches)) in
+    let to-seven = and-eq-true-iff (one && two && three && four && five && six) (leb mostText (length (sp .out))) .0 e in
     let to-six = and-eq-true-iff (one && two && three && four && five) six .0 (to-seven .0) in
     let to-five = and-eq-true-iff (one && two && three && four) five .0 (to-six .0) in
     let to-four = and-eq-true-iff (one && two && three) four .0 (to-five .0) in
     let to-three = and-eq-true-iff (one && two) three .0 (to-four .0) in
     let to-two = and-eq-true-iff one two .0 (to-three .0) in
     record {
-      cells = leb-true 16384 _ (to-two .0);
-      lines = leb-true 4096 _ (to-two .1);
-      counters = leb-true 4096 _ (to-three .1);
-      flags = leb-true 4096 _ (to-four .1);
-      totals = leb-true 64 _ (to-five .1);
-      matches = leb-true 4096 _ (to-six .1);
-      out = leb-true 200000 _ (to-seven .1);
+      cells = leb-true mostCells _ (to-two .0);
+      lines = leb-true mostRows _ (to-two .1);
+      counters = leb-true mostRows _ (to-three .1);
+      flags = leb-true mostRows _ (to-four .1);
+      totals = leb-true mostTotals _ (to-five .1);
+      matches = leb-true mostRows _ (to-six .1);
+      out = leb-true mostText _ (to-seven .1);
     }
 
 -- a buffer whose front part was lent
@@ -87,13 +88,12 @@ module _ (input : List ℕ) (sp : Space) where
 
     -- the match bytes and the state of the job are those in hand
     pub taken-job :
-        jobRefusal input ≡ 0 → (matches : List ℕ) (st : State)
-        → giving (accepted 0) (jobMatches input) (jobState input) ≡ giving (accepted 0) matches st
+        jobRefusal input ≡ 0 → (said : Said ℕ) (matches : List ℕ) (st : State) → jobRun input ≡ giving said matches st
         → {end : ℕ} {after : List ℕ} → Wrote 0 (reportText (jobShape input) st) (sp .out) end after
         → let run = withRun matches st sp in
         jobCall input sp ≡ printed end (space (run .cells) (run .lines) (run .counters) (run .flags) (run .totals) (run .matches) after)
     unfolding jobText
-    taken-job none matches st ran w =
+    taken-job none said matches st ran w =
         gives (withRun matches st sp)
         (ap (λ n. ifTaken n (withRun (jobMatches input) (jobState input) sp) sp) none ∙ ap (λ r. withRun (r .bytes) (r .state) sp) ran) refl
         (reportText (jobShape input) st)

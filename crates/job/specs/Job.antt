@@ -1,48 +1,49 @@
 -- Document 01, "The job program": what a job runs, what it prints, and what it leaves in the buffers that are lent to it.
 use mathlib.Core.Bool.{Bool, cond, _&&_}
-use mathlib.Core.List.{List, [], _∷_, _++_}
-use Prim.Native.Nat.{ℕ}
+use mathlib.Core.List.{List, _++_}
+use Prim.Native.Nat.{ℕ, zero, suc}
 use lib.Dec.{leb}
 use lib.ListN.{length, replicate}
-use Rattle.parity.specs.Lists.{joined}
 use Rattle.parity.specs.Shape.{levels, columns}
-use Rattle.parity.specs.Matrix.{cycleSteps}
 use Rattle.parity.specs.Questions.{ifTaken}
 use Rattle.parity.specs.declared.Shape.{Shape}
-use Rattle.cycle.specs.Calls.{State}
-use Rattle.cycle.specs.Run.{Call, clear, start, program, drift, step, run}
-use Rattle.cycle_run.specs.Cycles.{lastMatches}
-use Rattle.job_parse.specs.Parse.{jobShape, rowLevels, driftCount, driftRow, driftColumn, driftLevel, jobRefusal}
+use Rattle.shape.specs.Answers.{Result}
+use Rattle.array_memory.specs.Blocks.{blocksOf}
+use Rattle.array.specs.Calls.{driftCall}
+use Rattle.cycle.specs.Calls.{State, onMemory, fresh, clearCall, programCall}
+use Rattle.cycle_run.specs.Cycles.{cycleCall}
+use Rattle.job_parse.specs.Parse.{jobShape, rowLevels, driftCount, driftRow, driftColumn, driftLevel, mostCells, jobRefusal}
 use Rattle.job_text.specs.Text.{refusedText, headText, rowsText}
 use Rattle.job_text.specs.Written.{written}
 
--- ---- what it runs
+-- ---- what it runs, by the calls' own definitions
 
--- every row with its levels
-abbrev pub programCalls : List ℕ → ℕ → List Call
-programCalls input rows = joined rows (λ i. program i (rowLevels input i) ∷ [])
+-- rows 0 to i − 1 programmed, each with its levels, one after the other
+abbrev pub afterPrograms : List ℕ → ℕ → State → State
+afterPrograms input zero st = st
+afterPrograms input (suc i) st = programCall (jobShape input) (afterPrograms input i st) i (rowLevels input i) .state
 
--- the drifts
-abbrev pub driftCalls : List ℕ → ℕ → List Call
-driftCalls input count = joined count (λ i. drift (driftRow input i) (driftColumn input i) (driftLevel input i) ∷ [])
+-- drifts 0 to i − 1 applied, one after the other
+abbrev pub afterDrifts : List ℕ → ℕ → State → State
+afterDrifts input zero st = st
+afterDrifts input (suc i) st =
+    onMemory (λ mem. driftCall (jobShape input) mem (driftRow input i) (driftColumn input i) (driftLevel input i)) (afterDrifts input i st) .state
 
--- it clears, which makes all lines sound, programs every row, applies the drifts, runs one cycle that skips no digit
-unfoldable pub jobCalls : List ℕ → List Call
-jobCalls input =
+-- It clears, which makes all lines sound, programs every row, applies the drifts, and runs one cycle that skips no digit: all that this last call gives.
+unfoldable pub jobRun : List ℕ → Result State
+jobRun input =
     let s = jobShape input in
-    clear
-    ∷ programCalls input (s .rows)
-    ++ driftCalls input (driftCount input)
-    ++ start 0
-    ∷ replicate (cycleSteps 0 s) (step (replicate (s .rows) 0))
+    let clear = clearCall s (fresh s) .state in
+    let programmed = afterPrograms input (s .rows) clear in
+    let drifted = afterDrifts input (driftCount input) programmed in
+    cycleCall s drifted 0 (replicate (s .rows) 0)
 
--- the state that the calls' own definitions leave
-unfoldable pub jobState : List ℕ → State
-jobState input = run (jobShape input) (jobCalls input)
+-- the state that it leaves, and the match bytes of the cycle's last lookup
+abbrev pub jobState : List ℕ → State
+jobState input = jobRun input .state
 
--- the match bytes of the cycle's last lookup
-unfoldable pub jobMatches : List ℕ → List ℕ
-jobMatches input = lastMatches 0 (jobShape input) (jobState input .memory)
+abbrev pub jobMatches : List ℕ → List ℕ
+jobMatches input = jobRun input .bytes
 
 -- ---- what it prints
 
@@ -70,10 +71,27 @@ abbrev pub space : List ℕ → List ℕ → List ℕ → List ℕ → List ℕ 
 space cells lines counters flags totals matches out =
     record { cells = cells; lines = lines; counters = counters; flags = flags; totals = totals; matches = matches; out = out }
 
--- lengths that hold the largest job: 16,384 cells, 4,096 lines, counters, flags and match bytes, 64 totals, and 200,000 bytes of text
+-- the most rows that an array has, by question 5, and the totals of their blocks
+abbrev pub mostRows : ℕ
+mostRows = 4096
+
+abbrev pub mostTotals : ℕ
+mostTotals = blocksOf mostRows
+
+-- no job's text is longer
+abbrev pub mostText : ℕ
+mostText = 200000
+
+-- lengths that hold the largest job: its cells, its lines, counters and flags, its totals, its match bytes, and its text
 unfoldable pub enough : ℕ → ℕ → ℕ → ℕ → ℕ → ℕ → ℕ → Bool
 enough cells lines counters flags totals matches out =
-    leb 16384 cells && leb 4096 lines && leb 4096 counters && leb 4096 flags && leb 64 totals && leb 4096 matches && leb 200000 out
+    leb mostCells cells
+    && leb mostRows lines
+    && leb mostRows counters
+    && leb mostRows flags
+    && leb mostTotals totals
+    && leb mostRows matches
+    && leb mostText out
 
 abbrev pub roomy : Space → Bool
 roomy sp =

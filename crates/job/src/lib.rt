@@ -1,7 +1,9 @@
 // One job: bytes in, text out, on lent buffers.
 mod run;
 
+use array_memory::blocks::BLOCK;
 use array_memory::blocks::block_count;
+use job_parse::MAX_CELLS;
 use job_parse::questions::check_job;
 use job_parse::questions::shape_of;
 use job_text::print::put_head;
@@ -9,9 +11,16 @@ use job_text::print::put_refusal;
 use job_text::print::put_rows;
 use run::run_calls;
 use shape::sizes::Checked;
+use shape::sizes::Sizes;
 ghost use mathlib.Core.Path.{_≡_};
 ghost use Rattle.shape.specs.Lent.{was, left};
 ghost use Rattle.job.specs.Job.{enough, space, printed, jobCall};
+
+// The totals of the most rows that an array has.
+pub const MAX_TOTALS: usize = Sizes::MAX_ROWS / BLOCK;
+
+// No job's text is longer.
+pub const MAX_TEXT: usize = 200000;
 
 // Whether buffers of these lengths hold the largest job.
 fn has_room(
@@ -25,32 +34,32 @@ fn has_room(
 ) -> bool
     ensures { λ r. ⌜ r ≡ enough cells lines counters flags totals matches out ⌝ }
 {
-    if cells < 16384 {
+    if cells < MAX_CELLS {
         return false;
     }
-    if lines < 4096 {
+    if lines < Sizes::MAX_ROWS {
         return false;
     }
-    if counters < 4096 {
+    if counters < Sizes::MAX_ROWS {
         return false;
     }
-    if flags < 4096 {
+    if flags < Sizes::MAX_ROWS {
         return false;
     }
-    if totals < 64 {
+    if totals < MAX_TOTALS {
         return false;
     }
-    if matches < 4096 {
+    if matches < Sizes::MAX_ROWS {
         return false;
     }
-    200000 <= out
+    MAX_TEXT <= out
 }
 
 // Runs a job and gives the length of the text that it prints, which stands at the start of out. The buffers need at least
-// the lengths of the largest job: 16,384 for cells, 4,096 each for lines, counters, flags and matches, 64 for totals, 200,000
-// for out; there is no upper bound. Where one is shorter nothing is done, and the length is 0. A refused job writes its one
-// line, and nothing else. A job that is taken leaves its m × n cells, m lines, all sound, m counters, m flags, the totals of its
-// blocks and the m match bytes of its last lookup at the start of those buffers. Every other byte stays as it was.
+// the lengths of the largest job: MAX_CELLS for cells, MAX_ROWS each for lines, counters, flags and matches, MAX_TOTALS for
+// totals, MAX_TEXT for out; there is no upper bound. Where one is shorter nothing is done, and the length is 0. A refused job
+// writes its one line, and nothing else. A job that is taken leaves its m × n cells, m lines, all sound, m counters, m flags, the
+// totals of its blocks and the m match bytes of its last lookup at the start of those buffers. Every other byte stays as it was.
 pub fn job(
     input: &[u8],
     cells: &mut [u8],
@@ -80,9 +89,9 @@ pub fn job(
         Checked::Taken(sizes) => {
             let shape = shape_of(input);
             let rows = shape.rows;
-            let end = rows * sizes.columns;
+            let end = sizes.cells;
             let blocks = block_count(rows);
-            let cycle = run_calls(
+            let ended = run_calls(
                 input,
                 shape,
                 &mut cells[..end],
@@ -92,6 +101,7 @@ pub fn job(
                 &mut totals[..blocks],
                 &mut matches[..rows],
             );
+            let cycle = ended.cycle;
             let head = put_head(out, sizes.levels, sizes.columns, cycle.count);
             put_rows(out, head, &flags[..rows])
         }

@@ -13,10 +13,10 @@ use Rattle.parity.specs.declared.Shape.{Shape}
 use Rattle.parity.proofs.Taken.{first-yes}
 use Rattle.shape.specs.declared.sizes.Sizes.{Sizes}
 use Rattle.shape.specs.Answers.{Said, accepted, refused}
-use Rattle.shape.specs.Shapes.{sizesOf, noSizes, sizesIf, shapeSays}
-use Rattle.shape.proofs.Refusals.{first-rest, first-found, taken-rest, refused-rest, says-number, says-sizes}
+use Rattle.shape.specs.Shapes.{sizesOf, noSizes, sizesIf}
+use Rattle.shape.proofs.Refusals.{first-rest, first-found, taken-rest, says-number, says-sizes}
 use Rattle.job_parse.specs.Parse.{fourAt, jobShape, levelCount, driftCount, driftStart}
-use Rattle.job_parse.specs.Parse.{sizeQuestion, versionQuestion, frameQuestion, cellsQuestion, contentsQuestion}
+use Rattle.job_parse.specs.Parse.{mostBytes, sizeQuestion, versionQuestion, frameQuestion, cellsQuestion, contentsQuestion}
 use Rattle.job_parse.specs.Parse.{frameQuestions, contentsQuestions, driftQuestions, jobQuestions, jobRefusal}
 
 module _ (input : List ℕ) where
@@ -25,14 +25,14 @@ module _ (input : List ℕ) where
 
   -- ---- what the parts without a no tell of the length
 
-  pub frame-yes : firstNo (frameQuestions input) ≡ 0 → (13 ≤ length input) × (length input ≤ 32768)
+  pub frame-yes : firstNo (frameQuestions input) ≡ 0 → (13 ≤ length input) × (length input ≤ mostBytes)
   frame-yes e =
       let size = first-yes (sizeQuestion input .holds) _ 10 (omega arith) e in
       let version = first-yes (versionQuestion input .holds) _ 11 (omega arith) (size .1) in
       let last = first-yes (frameQuestion input .holds) 0 12 (omega arith) (version .1) in
       let parts = and-eq-true-iff (leb 5 (length input) && eqb (fourAt input 1) (length input - 5)) (leb 8 (length input - 5)) .0 (last .0) in
-      let behind = leb-true 8 (length input - 5) (parts .1) in
-      (omega arith, leb-true (length input) 32768 (size .0))
+      let rest = leb-true 8 (length input - 5) (parts .1) in
+      (omega arith, leb-true (length input) mostBytes (size .0))
 
   pub contents-yes : firstNo (contentsQuestions input) ≡ 0 → length input ≡ driftStart input (driftCount input)
   contents-yes e =
@@ -46,8 +46,8 @@ module _ (input : List ℕ) where
 
   -- ---- what is answered, part by part
 
-  abbrev behindShape : List Question
-  behindShape = contentsQuestions input ++ driftQuestions input
+  abbrev afterShape : List Question
+  afterShape = contentsQuestions input ++ driftQuestions input
 
   abbrev Answers : Said Sizes → Type 0
   Answers said = said ≡ sizesIf (jobRefusal input) s
@@ -59,19 +59,19 @@ module _ (input : List ℕ) where
 
   pub frame-no : (n : ℕ) → 0 < n → firstNo (frameQuestions input) ≡ n → Answers (refused noSizes n)
   unfolding jobQuestions
-  frame-no n pos e = number n (first-found (frameQuestions input) (shapeQuestions s ++ behindShape) n pos e, pos)
+  frame-no n pos e = number n (first-found (frameQuestions input) (shapeQuestions s ++ afterShape) n pos e, pos)
 
   module _ (f : firstNo (frameQuestions input) ≡ 0) where
-    shape-first : firstNo (jobQuestions input) ≡ firstNo (shapeQuestions s ++ behindShape)
+    shape-first : firstNo (jobQuestions input) ≡ firstNo (shapeQuestions s ++ afterShape)
     unfolding jobQuestions
-    shape-first = first-rest (frameQuestions input) (shapeQuestions s ++ behindShape) refl f
+    shape-first = first-rest (frameQuestions input) (shapeQuestions s ++ afterShape) refl f
 
-    pub shape-no : (n : ℕ) → refused noSizes n ≡ shapeSays s → Answers (refused noSizes n)
-    shape-no n e = let no = refused-rest s n e behindShape in number n (shape-first ∙ no .0, no .1)
+    pub shape-no : (n : ℕ) → (firstNo (shapeQuestions s) ≡ n) × (0 < n) → Answers (refused noSizes n)
+    shape-no n e = number n (shape-first ∙ first-found (shapeQuestions s) afterShape n (e .1) (e .0), e .1)
 
     module _ (t : Taken s) where
-      contents-first : firstNo (jobQuestions input) ≡ firstNo behindShape
-      contents-first = shape-first ∙ taken-rest s t behindShape
+      contents-first : firstNo (jobQuestions input) ≡ firstNo afterShape
+      contents-first = shape-first ∙ taken-rest s t afterShape
 
       pub contents-no : (n : ℕ) → 0 < n → firstNo (contentsQuestions input) ≡ n → Answers (refused noSizes n)
       contents-no n pos e = number n (contents-first ∙ first-found (contentsQuestions input) (driftQuestions input) n pos e, pos)
@@ -85,4 +85,4 @@ module _ (input : List ℕ) where
 
         pub none : firstNo (driftQuestions input) ≡ 0 → (z : Sizes) → z ≡ sizesOf s → Answers (accepted z)
         unfolding jobRefusal
-        none e z same = says-sizes (jobQuestions input) s z (drifts-first ∙ e) same
+        none e z same = says-sizes (jobQuestions input) s z (record { none = drifts-first ∙ e; sizes = same })

@@ -27,7 +27,7 @@ module _ (f : ℕ → List Question) (named : (i : ℕ) → numbered (f i) ≡ t
   next-first : (i : ℕ) → firstNo (joined i f) ≡ 0 → firstNo (joined (suc i) f) ≡ firstNo (f i)
   next-first i e = first-rest (joined i f) (f i) (numbered-joined i) e
 
-  -- .. which the lists behind it leave
+  -- .. which the lists after it leave
   kept : (d i n : ℕ) → 0 < n → i ≤ d → firstNo (joined i f) ≡ n → firstNo (joined d f) ≡ n
   kept zero i n pos h e = let none : 0 ≡ i = omega arith in ap (λ k. firstNo (joined k f)) none ∙ e
   kept (suc d) i n pos h e =

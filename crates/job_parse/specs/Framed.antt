@@ -7,11 +7,11 @@ use Rattle.parity.specs.Questions.{Taken}
 use Rattle.parity.specs.declared.Shape.{Shape}
 use Rattle.shape.specs.declared.sizes.Sizes.{Sizes}
 use Rattle.shape.specs.Shapes.{sizesOf}
-use Rattle.job_parse.specs.Parse.{jobShape}
+use Rattle.job_parse.specs.Parse.{jobShape, mostBytes}
 
 pub record Framed (input : List ℕ) (s : Shape) (z : Sizes) : Type 0 where
   pub long : 13 ≤ length input
-  pub short : length input ≤ 32768
+  pub short : length input ≤ mostBytes
   pub shape : s ≡ jobShape input
   pub taken : Taken s
   pub sizes : z ≡ sizesOf s

@@ -5,9 +5,9 @@ use Prim.Native.Nat.{ℕ, _+_, _-_, _*_}
 use lib.Dec.{eqb, leb}
 use lib.ListN.{length, getD, take, drop}
 use Rattle.parity.specs.Lists.{joined}
-use Rattle.parity.specs.Questions.{Question, firstNo, shapeQuestions, levelsQuestion}
+use Rattle.parity.specs.Shape.{levels, cellCount}
+use Rattle.parity.specs.Questions.{Question, question, firstNo, shapeQuestions, levelsQuestion}
 use Rattle.parity.specs.declared.Shape.{Shape}
-use Rattle.array_memory.specs.Memory.{cellCount}
 use Rattle.array_questions.specs.Questions.{driftArguments}
 
 -- ---- fields
@@ -38,7 +38,7 @@ jobLevels input = take (levelCount input) (drop 11 input)
 abbrev pub rowLevels : List ℕ → ℕ → List ℕ
 rowLevels input i = take (jobShape input .width) (drop (11 + i * jobShape input .width) input)
 
--- the drift count d, behind the levels
+-- the drift count d, after the levels
 abbrev pub driftCount : List ℕ → ℕ
 driftCount input = twoAt input (11 + levelCount input)
 
@@ -57,39 +57,41 @@ driftLevel input i = byteAt input (driftStart input i + 3)
 
 -- ---- questions
 
+-- the most bytes that a job has
+abbrev pub mostBytes : ℕ
+mostBytes = 32768
+
+-- the most cells that its array has
+abbrev pub mostCells : ℕ
+mostCells = 16384
+
 -- 10: at most 32,768 bytes
 abbrev pub sizeQuestion : List ℕ → Question
-sizeQuestion input = record { number = 10; holds = leb (length input) 32768 }
+sizeQuestion input = question 10 (leb (length input) mostBytes)
 
 -- 11: a first byte, equal to 1
 abbrev pub versionQuestion : List ℕ → Question
-versionQuestion input = record { number = 11; holds = leb 1 (length input) && eqb (byteAt input 0) 1 }
+versionQuestion input = question 11 (leb 1 (length input) && eqb (byteAt input 0) 1)
 
 -- 12: five bytes or more, a length equal to what follows, and at least 8
 abbrev pub frameQuestion : List ℕ → Question
-frameQuestion input =
-    record { number = 12; holds = leb 5 (length input) && eqb (fourAt input 1) (length input - 5) && leb 8 (length input - 5) }
+frameQuestion input = question 12 (leb 5 (length input) && eqb (fourAt input 1) (length input - 5) && leb 8 (length input - 5))
 
 abbrev pub frameQuestions : List ℕ → List Question
 frameQuestions input = sizeQuestion input ∷ versionQuestion input ∷ frameQuestion input ∷ []
 
 -- 13: m × n at most 16,384
 abbrev pub cellsQuestion : List ℕ → Question
-cellsQuestion input = record { number = 13; holds = leb (cellCount (jobShape input)) 16384 }
+cellsQuestion input = question 13 (leb (cellCount (jobShape input)) mostCells)
 
 -- 14: levels and drift count present, and exactly 8 + m × k + 4 × d bytes after the length
 abbrev pub contentsQuestion : List ℕ → Question
 contentsQuestion input =
-    record {
-      number = 14;
-      holds =
-          leb (8 + levelCount input) (length input - 5)
-          && eqb (length input - 5) (8 + levelCount input + 4 * driftCount input);
-    }
+    question 14 (leb (8 + levelCount input) (length input - 5) && eqb (length input - 5) (8 + levelCount input + 4 * driftCount input))
 
 -- 13, 14, and 8 on all levels
 abbrev pub contentsQuestions : List ℕ → List Question
-contentsQuestions input = cellsQuestion input ∷ contentsQuestion input ∷ levelsQuestion (jobShape input) (jobLevels input) ∷ []
+contentsQuestions input = cellsQuestion input ∷ contentsQuestion input ∷ levelsQuestion (levels (jobShape input)) (jobLevels input) ∷ []
 
 -- 7 then 8 for each drift in turn
 unfoldable pub driftQuestions : List ℕ → List Question

@@ -1,6 +1,8 @@
 // The fields of a job and its questions.
-use acam::sound::all_below;
+use super::MAX_BYTES;
+use super::MAX_CELLS;
 use parity::Shape;
+use shape::byte::all_below;
 use shape::byte::wide;
 use shape::sizes::Checked;
 use shape::sizes::Sizes;
@@ -27,7 +29,7 @@ pub fn two_at(input: &[u8], at: usize) -> usize
 fn check_frame(input: &[u8]) -> u8
     ensures { λ r. ⌜ r ≡ firstNo (frameQuestions (was input)) ⌝ }
 {
-    if 32768 < input.len() {
+    if MAX_BYTES < input.len() {
         return 10;
     }
     if input.len() == 0 {
@@ -65,9 +67,9 @@ fn check_contents(input: &[u8], shape: Shape, sizes: Sizes) -> u8
 {
     let rows = shape.rows;
     let width = shape.width;
-    let columns = sizes.columns;
+    let cells = sizes.cells;
     let levels = sizes.levels;
-    if 16384 < rows * columns {
+    if MAX_CELLS < cells {
         return 13;
     }
     let end = 11 + rows * width;

@@ -1,4 +1,4 @@
--- Laws of `decimal`: a number below 2 ^ 64 has at most 20 digits, and from 10 on its last digit stands behind the digits of its tenth.
+-- Laws of `decimal`: a number below 2 ^ 64 has at most 20 digits, and from 10 on its last digit comes after the digits of its tenth.
 -- Assumes nothing.
 use mathlib.Core.Path.{_≡_, refl, sym, _∙_, ap}
 use mathlib.Core.Bool.{Bool, true, false, cond}
@@ -11,7 +11,7 @@ use lib.ListN.{length, length-append}
 use borrow.Author.Tests.{ltb-true, ltb-false, lt-ltb, le-ltb}
 use Rattle.job_text.specs.Text.{decimalIn, decimal}
 
--- a number of one digit, or its last digit behind the digits of its tenth
+-- a number of one digit, or the digits of its tenth and then its last digit
 module _ (P : List ℕ → Type 0) (places n : ℕ) where
   digit-cases : (n < 10 → P ((48 + n) ∷ [])) → (10 ≤ n → P (decimalIn places (n / 10) ++ ((48 + n % 10) ∷ []))) → P (decimalIn (suc places) n)
   digit-cases one more = go (ltb n 10) refl

@@ -1,4 +1,4 @@
--- Laws of `written` and `Wrote`: one text behind another is the two as one text, and a text copied into its part is written. Assumes nothing.
+-- Laws of `written` and `Wrote`: one text after another is the two as one text, and a text copied into its part is written. Assumes nothing.
 use mathlib.Core.Path.{_≡_, sym, _∙_, ap₂}
 use mathlib.Core.List.{List, [], _∷_, _++_, append-nil, append-assoc}
 use Prim.Native.Nat.{ℕ, suc, _+_, _-_, _≤_, _<_}
@@ -70,7 +70,7 @@ written-part at text out fits =
 pub wrote-none : (at : ℕ) (out : List ℕ) → Wrote at [] out at out
 wrote-none at out = record { place = omega arith; bytes = sym (written-none at out) }
 
--- one text behind another
+-- one text after another
 pub wrote-append :
     {at mid end : ℕ} {a b out now now′ : List ℕ} → mid ≤ length out → Wrote at a out mid now → Wrote mid b now end now′
     → Wrote at (a ++ b) out end now′

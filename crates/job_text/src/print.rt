@@ -1,4 +1,4 @@
-// The text of a job, written into a lent buffer. Each function gives the place behind what it wrote.
+// The text of a job, written into a lent buffer. Each function gives the place after what it wrote.
 use shape::byte::copy;
 ghost use mathlib.Core.Path.{_≡_};
 ghost use mathlib.Core.List.{_++_};
@@ -46,7 +46,7 @@ fn put_number(out: &mut [u8], at: usize, number: usize) -> usize
     at + count
 }
 
-// A word and a number behind it.
+// A word, and then a number.
 fn put_item(out: &mut [u8], at: usize, word: &[u8], number: usize) -> usize
     requires { ⌜ at + length (now word) + 20 ≤ length (now out) ⌝ }
     ensures { λ r. ⌜ Wrote at (was word ++ decimal number) (was out) r (left out) ⌝ }

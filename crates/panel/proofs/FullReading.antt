@@ -1,27 +1,28 @@
--- The panel's total and first row are those of a full reading of the flags, where each total is its block's count of flagged rows; and
--- for any bytes it reads one block of flags at most. Assumes nothing.
+-- What the panel is told is what a full reading of the flags tells, where each total is its block's count of flagged rows. Assumes nothing.
 use mathlib.Core.Path.{_≡_, refl, sym, _∙_, ap, ap₂}
 use mathlib.Core.Bool.{Bool, true, false, cond}
-use mathlib.Core.List.{List, [], _∷_, _++_}
+use mathlib.Core.List.{List, [], _∷_}
 use Prim.Native.Nat.{ℕ, zero, suc, _+_, _-_, _*_, _≤_, _<_, suc-le-suc}
 use native.Mathlib.Nat.{zero-lt-suc}
 use native.Mathlib.Omega.{arith}
 use lib.ListN.{length, getD, take, drop, length-drop, length-take}
 use lib.Dec.{ltb}
 use lib.Seq.{take-all, getD-take}
-use borrow.Author.Tests.{eq-eqb, ltb-true, ltb-false, lt-ltb, le-ltb}
+use borrow.Author.Tests.{ltb-true, ltb-false, lt-ltb, le-ltb}
 use Rattle.parity.specs.Lists.{tabulate, sumOver, sumTo}
-use Rattle.parity.specs.Questions.{firstNo, ifTaken}
+use Rattle.parity.specs.Questions.{firstNo, lengthsQuestion}
+use Rattle.parity.proofs.Alongside.{equal-alongside}
 use Rattle.parity.proofs.ListLaws.{length-tabulate, getD-tabulate, sum-append}
-use Rattle.shape.specs.Answers.{row, none, rowOrNone, accepted, refused}
-use Rattle.shape.proofs.Refusals.{taken-rest}
+use Rattle.shape.specs.Answers.{row, none, rowOrNone, accepted}
+use Rattle.shape.proofs.Refusals.{call-rest}
 use Rattle.array_memory.specs.Blocks.{blocksOf, blockAt, countFlagged, blockTotals}
-use Rattle.array_memory.specs.Memory.{flagsQuestions}
+use Rattle.array_memory.specs.Lengths.{flaggedWanted, flaggedLengths}
 use Rattle.array_memory.proofs.BlockPlaces.{blocks-reach, block-low, block-flag}
 use Rattle.array_memory.proofs.FlagCounts.{count-zero, zero-count, count-blocks}
-use Rattle.cycle.specs.Run.{run}
-use Rattle.panel.specs.Panel.{reading, noReading, firstNonzero, anyNonzero, firstIn, readCount, panelReading, panelQuestions, panelCall, firstFlagged}
-use Rattle.panel.specs.Claims.{FullReadingClaim, OneBlockClaim}
+use Rattle.call_lists.specs.Run.{run}
+use Rattle.panel.specs.Panel.{reading, firstNonzero, anyNonzero, firstIn, readCount, panelReading, panelQuestions, panelCall}
+use Rattle.panel.specs.Panel.{firstFlagged, readThrough, fullReading}
+use Rattle.panel.specs.Claims.{FullReadingClaim}
 use Rattle.panel.proofs.FirstFlags.{first-before, first-there, first-is}
 use Rattle.panel.proofs.TotalsKept.{Totalled, totalled}
 
@@ -120,59 +121,44 @@ module _ (flags : List ℕ) where
         quiet
         (λ e. first-there block some (block-flag flags i (firstNonzero block) (omega (arith, some, block-low flags i)) ∙ e))
 
-    row-told : firstIn flags i ≡ firstFlagged flags
+    row-first : row (i * 64 + firstNonzero block) ≡ firstFlagged flags
     unfolding firstFlagged
-    row-told =
-        let there : row (i * 64 + firstNonzero block) ≡ rowOrNone (length flags) (i * 64 + firstNonzero block) =
+    row-first =
         sym (ap (λ t. cond t (row (i * 64 + firstNonzero block)) none) (lt-ltb (i * 64 + firstNonzero block) (length flags) inside))
-        in
-        ap (λ t. cond t (row (i * 64 + firstNonzero block)) none) (lt-ltb (firstNonzero block) (length block) some)
-        ∙ there
         ∙ ap (rowOrNone (length flags)) (sym first-flag)
 
+    row-told : firstIn flags i ≡ firstFlagged flags
+    row-told = ap (λ t. cond t (row (i * 64 + firstNonzero block)) none) (lt-ltb (firstNonzero block) (length block) some) ∙ row-first
+
+    -- as many flags are read as stand from the block's start through that row's
+    read-told : readCount block ≡ readThrough (firstFlagged flags)
+    read-told =
+        let low : firstNonzero block < 64 = omega (arith, some, block-low flags i) in
+        let place : suc (firstNonzero block) ≡ readThrough (row (i * 64 + firstNonzero block)) = omega arith in
+        ap (λ t. cond t (suc (firstNonzero block)) (length block)) (lt-ltb (firstNonzero block) (length block) some)
+        ∙ place
+        ∙ ap readThrough row-first
+
   -- ---- so what the panel is told is what a full reading tells
-  full : let told = panelReading flags (blockTotals flags) in told ≡ reading (countFlagged flags) (firstFlagged flags) (told .read)
-  unfolding panelReading
+  full : panelReading flags (blockTotals flags) ≡ fullReading flags
+  unfolding panelReading fullReading
   full = go (anyNonzero (blockTotals flags)) refl
     where
-      go :
-          (b : Bool) → anyNonzero (blockTotals flags) ≡ b
-          → let told = panelReading flags (blockTotals flags) in told ≡ reading (countFlagged flags) (firstFlagged flags) (told .read)
-      go true e = rw e (ap₂ (λ total first. reading total first (readCount (block e))) total-sum (row-told e))
-      go false e = rw e (ap₂ (λ total first. reading total first 0) total-sum (none-flagged e))
+      go : (b : Bool) → anyNonzero (blockTotals flags) ≡ b → panelReading flags (blockTotals flags) ≡ fullReading flags
+      go true e = rw e (λ j. reading (total-sum j) (row-told e j) (read-told e j))
+      go false e = rw e (ap₂ (λ total first. reading total first (readThrough first)) total-sum (none-flagged e))
 
--- ---- the claims
+-- ---- the claim
 
 pub fullReadingClaim : FullReadingClaim
 unfolding panelCall
 fullReadingClaim s t calls =
     let mem = run s calls .memory in
-    let kept : Totalled s mem = totalled s calls in
+    let kept : Totalled s (mem .flags) (mem .totals) = totalled s calls in
     let blocks : length (mem .totals) ≡ blocksOf (s .rows) =
     ap length (kept .counted) ∙ totals-length (mem .flags) ∙ ap blocksOf (kept .sized)
     in
-    let asked : firstNo (panelQuestions s mem) ≡ 0 =
-    taken-rest s t (flagsQuestions s mem ++ []) ∙ rw (eq-eqb _ _ (kept .sized), eq-eqb _ _ blocks) refl
+    let asked : firstNo (panelQuestions s (flaggedLengths mem)) ≡ 0 =
+    call-rest s [] (lengthsQuestion (flaggedLengths mem) (flaggedWanted s)) [] t (equal-alongside _ _ (λ i. kept .sized i ∷ blocks i ∷ []))
     in
     rw (asked, kept .counted) (ap accepted (full (mem .flags)))
-
--- a search reads no more bytes than there are
-read-low : (bytes : List ℕ) → readCount bytes ≤ length bytes
-read-low bytes = go (anyNonzero bytes) refl
-  where
-    go : (b : Bool) → anyNonzero bytes ≡ b → cond b (suc (firstNonzero bytes)) (length bytes) ≤ length bytes
-    go true e = ltb-true (firstNonzero bytes) (length bytes) e
-    go false e = omega arith
-
-pub oneBlockClaim : OneBlockClaim
-unfolding panelCall panelReading
-oneBlockClaim s mem = go (firstNo (panelQuestions s mem)) (anyNonzero (mem .totals))
-  where
-    go :
-        (n : ℕ) (b : Bool) → let i = firstNonzero (mem .totals) in
-        let total = sumOver (mem .totals) (λ t. t) in
-        let told = cond b (reading total (firstIn (mem .flags) i) (readCount (blockAt (mem .flags) i))) (reading total none 0) in
-        ifTaken n (accepted told) (refused noReading n) .value .read ≤ 64
-    go zero true = omega (arith, read-low (blockAt (mem .flags) (firstNonzero (mem .totals))), block-low (mem .flags) (firstNonzero (mem .totals)))
-    go zero false = omega arith
-    go (suc n) b = omega arith

@@ -4,4 +4,5 @@ pub mod Readings
 pub mod FirstFlags
 pub mod TotalsKept
 pub mod FullReading
+pub mod OneBlock
 pub mod Examples

@@ -13,7 +13,7 @@ use Rattle.shape.proofs.Search.{search-found, search-missed, search-ended}
 use Rattle.shape.proofs.Search.{searched as left-of}
 use Rattle.array_memory.specs.Blocks.{isFlagged}
 use Rattle.panel.specs.Panel.{firstNonzero, anyNonzero}
-use Rattle.panel.specs.Answers.{searched}
+use Rattle.panel.specs.Reads.{searched}
 use Rattle.panel.specs.declared.Search.{Search}
 
 module _ (bytes : List ℕ) where

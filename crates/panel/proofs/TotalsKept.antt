@@ -10,7 +10,7 @@ use Rattle.parity.specs.declared.Shape.{Shape}
 use Rattle.parity.proofs.ListLaws.{length-tabulate, tabulate-same, tabulate-constant}
 use Rattle.shape.proofs.Calling.{call-keeps}
 use Rattle.array_memory.specs.Blocks.{blocksOf, blockAt, countFlagged, blockTotals}
-use Rattle.array_memory.specs.Memory.{Memory, withArray, noMemory}
+use Rattle.array_memory.specs.Memory.{Memory, noMemory}
 use Rattle.array_memory.proofs.BlockPlaces.{block-low, block-flag}
 use Rattle.array_memory.proofs.FlagCounts.{zero-count}
 use Rattle.array.specs.Calls.{rowWritten, askCall, drifted, driftCall, lineSet, lineCall}
@@ -20,18 +20,14 @@ use Rattle.cycle_lookup.specs.Lookup.{flaggedRows, lookedUp}
 use Rattle.cycle_lookup.proofs.Passes.{flags-kept, totals-kept, totals-counted}
 use Rattle.cycle.specs.Record.{nextEntry}
 use Rattle.cycle.specs.Calls.{State, zeroRows, cleared, fresh, clearCall, programCall, commitCall, started, startCall, steppedMemory, stepped, stepCall}
-use Rattle.cycle.specs.Run.{Call, clear, start, program, ask, commit, drift, line, lookup, step, after, run}
-use Rattle.cycle.proofs.Runs.{keepClaim}
+use Rattle.call_lists.specs.Run.{Call, clear, start, program, ask, commit, drift, line, lookup, step, after, run}
+use Rattle.call_lists.proofs.Runs.{run-holds}
 use Rattle.panel.specs.Claims.{TotalsClaim}
 
--- what every call keeps
-pub record Totalled (s : Shape) (mem : Memory) : Type 0 where
-  pub sized : length (mem .flags) ≡ s .rows
-  pub counted : mem .totals ≡ blockTotals (mem .flags)
-
--- cells and lines that are written anew leave it
-array-apart : (s : Shape) (mem : Memory) → Totalled s mem → (cells lines : List ℕ) → Totalled s (withArray cells lines mem)
-array-apart s mem t cells lines = record { sized = t .sized; counted = t .counted }
+-- what every call keeps of flags and totals
+pub record Totalled (s : Shape) (flags totals : List ℕ) : Type 0 where
+  pub sized : length flags ≡ s .rows
+  pub counted : totals ≡ blockTotals flags
 
 -- without a flag every total is 0
 zero-byte : (m j : ℕ) → let zeros : List ℕ = replicate m 0 in getD zeros j 0 ≡ 0
@@ -53,11 +49,18 @@ zero-totals m =
     ∙ tabulate-constant (blocksOf m) 0)
 
 module _ (s : Shape) where
-  zeroed : (mem : Memory) → Totalled s (zeroRows s mem)
+  -- that, of a memory and of a state
+  abbrev Counted : Memory → Type 0
+  Counted mem = Totalled s (mem .flags) (mem .totals)
+
+  abbrev Holds : State → Type 0
+  Holds st = Counted (st .memory)
+
+  zeroed : (mem : Memory) → Counted (zeroRows s mem)
   unfolding zeroRows
   zeroed mem = record { sized = length-replicate (s .rows) 0; counted = zero-totals (s .rows) }
 
-  counted-anew : (st : State) → Totalled s (st .memory) → Totalled s (steppedMemory s st)
+  counted-anew : (st : State) → Holds st → Counted (steppedMemory s st)
   unfolding steppedMemory lookedUp flaggedRows
   counted-anew st t = record { sized = length-tabulate (s .rows) _; counted = go (entry .flags) refl }
     where
@@ -68,22 +71,23 @@ module _ (s : Shape) where
       go true e = sym (totals-counted s entry (st .memory) e refl refl)
       go false e = sym (totals-kept s entry (st .memory) e) ∙ t .counted ∙ ap blockTotals (flags-kept s entry (st .memory) e (t .sized))
 
-  keeps : (st : State) (c : Call) → Totalled s (st .memory) → Totalled s (after s st c .memory)
+  -- clear, start and step write flags and totals, and no other call does
+  keeps : (st : State) (c : Call) → Holds st → Holds (after s st c)
   unfolding clearCall cleared programCall commitCall rowWritten startCall started askCall driftCall drifted lineCall lineSet lookupCall stepCall stepped
-  keeps st clear t = call-keeps _ _ st _ (λ st. Totalled s (st .memory)) t (array-apart s _ (zeroed (st .memory)) _ _)
-  keeps st (start z) t = call-keeps _ _ st _ (λ st. Totalled s (st .memory)) t (zeroed (st .memory))
-  keeps st (program row given) t = call-keeps _ _ st _ (λ st. Totalled s (st .memory)) t (array-apart s (st .memory) t _ _)
-  keeps st (ask row given buffer) t = call-keeps _ _ (st .memory) _ (Totalled s) t t
-  keeps st (commit row finished) t = call-keeps _ _ st _ (λ st. Totalled s (st .memory)) t (array-apart s (st .memory) t _ _)
-  keeps st (drift row column level) t = call-keeps _ _ (st .memory) _ (Totalled s) t (array-apart s (st .memory) t _ _)
-  keeps st (line row byte) t = call-keeps _ _ (st .memory) _ (Totalled s) t (array-apart s (st .memory) t _ _)
-  keeps st (lookup inputs matches) t = call-keeps _ _ (st .memory) _ (Totalled s) t t
-  keeps st (step matches) t = call-keeps _ _ st _ (λ st. Totalled s (st .memory)) t (counted-anew st t)
+  keeps st clear t = call-keeps _ _ st _ Holds t (zeroed (st .memory))
+  keeps st (start z) t = call-keeps _ _ st _ Holds t (zeroed (st .memory))
+  keeps st (step matches) t = call-keeps _ _ st _ Holds t (counted-anew st t)
+  keeps st (program row given) t = call-keeps _ _ st _ Holds t t
+  keeps st (commit row finished) t = call-keeps _ _ st _ Holds t t
+  keeps st (ask row given buffer) t = call-keeps _ _ (st .memory) _ Counted t t
+  keeps st (drift row column level) t = call-keeps _ _ (st .memory) _ Counted t t
+  keeps st (line row byte) t = call-keeps _ _ (st .memory) _ Counted t t
+  keeps st (lookup inputs matches) t = call-keeps _ _ (st .memory) _ Counted t t
 
   -- after every list
-  pub totalled : (calls : List Call) → Totalled s (run s calls .memory)
+  pub totalled : (calls : List Call) → Holds (run s calls)
   unfolding fresh cleared
-  totalled = keepClaim s (λ st. Totalled s (st .memory)) (array-apart s _ (zeroed noMemory) _ _) keeps
+  totalled = run-holds s Holds (zeroed noMemory) keeps
 
 pub totalsClaim : TotalsClaim
 totalsClaim s calls = totalled s calls .counted

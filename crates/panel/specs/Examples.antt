@@ -6,7 +6,7 @@ use Prim.Native.Nat.{ℕ}
 use lib.ListN.{replicate}
 use Rattle.parity.specs.declared.Shape.{Shape}
 use Rattle.shape.specs.Answers.{Said, row, none, accepted}
-use Rattle.cycle.specs.Run.{Call, start, drift, line, step, run}
+use Rattle.call_lists.specs.Run.{Call, start, drift, line, step, run}
 use Rattle.panel.specs.Panel.{Reading, reading, panelCall}
 
 abbrev pub threeBlocks : Shape
@@ -21,16 +21,16 @@ unfoldable pub examples : List (List Call)
 examples = wholeCycle ∷ (drift 129 1 1 ∷ wholeCycle) ∷ (drift 70 0 1 ∷ drift 129 1 1 ∷ wholeCycle) ∷ (line 69 1 ∷ drift 70 0 1 ∷ wholeCycle) ∷ []
 
 -- what is looked at after a list: the totals, and what the panel is told
-pub record Shown : Type 0 where
+pub record PanelSeen : Type 0 where
   pub totals : List ℕ
   pub told : Said Reading
 
-abbrev pub shown : List Call → Shown
-shown calls = let mem = run threeBlocks calls .memory in record { totals = mem .totals; told = panelCall threeBlocks mem }
+abbrev pub panelSeen : List Call → PanelSeen
+panelSeen calls = let mem = run threeBlocks calls .memory in record { totals = mem .totals; told = panelCall threeBlocks mem }
 
 abbrev pub ExamplesClaim : Type 0
 ExamplesClaim =
-    map shown examples
+    map panelSeen examples
     ≡ record { totals = 0 ∷ 0 ∷ 0 ∷ []; told = accepted (reading 0 none 0) }
     ∷ record { totals = 0 ∷ 0 ∷ 1 ∷ []; told = accepted (reading 1 (row 129) 2) }
     ∷ record { totals = 0 ∷ 1 ∷ 1 ∷ []; told = accepted (reading 2 (row 70) 7) }

@@ -3,3 +3,4 @@ pub mod Panel
 pub mod Answers
 pub mod Claims
 pub mod Examples
+pub mod Reads

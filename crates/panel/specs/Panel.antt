@@ -1,15 +1,16 @@
 -- Document 02, Card 1: what the panel is told of the flagged rows, from the blocks' totals and one block of flags, for any bytes.
 use mathlib.Core.Bool.{Bool, cond}
 use mathlib.Core.List.{List, []}
-use Prim.Native.Nat.{ℕ, suc, _+_, _*_}
+use Prim.Native.Nat.{ℕ, suc, _+_, _*_, _%_}
 use lib.Dec.{ltb}
 use lib.ListN.{length, getD}
 use Rattle.parity.specs.Lists.{sumOver, firstFrom}
-use Rattle.parity.specs.Questions.{Question, firstNo, callQuestions}
+use Rattle.parity.specs.Questions.{Question, firstNo, callQuestions, lengthsQuestion}
 use Rattle.parity.specs.declared.Shape.{Shape}
 use Rattle.shape.specs.Answers.{Said, Found, row, none, rowOrNone, answering}
-use Rattle.array_memory.specs.Blocks.{blockAt, isFlagged}
-use Rattle.array_memory.specs.Memory.{Memory, flagsQuestions}
+use Rattle.array_memory.specs.Blocks.{blockAt, isFlagged, countFlagged}
+use Rattle.array_memory.specs.Lengths.{flaggedWanted, flaggedLengths}
+use Rattle.array_memory.specs.Memory.{Memory}
 
 -- the grand total, the first flagged row or none, and how many flags were read
 pub record Reading : Type 0 where
@@ -43,19 +44,28 @@ panelReading flags totals =
     let i = firstNonzero totals in
     cond (anyNonzero totals) (reading total (firstIn flags i) (readCount (blockAt flags i))) (reading total none 0)
 
--- 1 to 5, 6 on flags and totals
-abbrev pub panelQuestions : Shape → Memory → List Question
-panelQuestions s mem = callQuestions s [] (flagsQuestions s mem) []
+-- 1 to 5, 6 on flags and totals, by their lengths
+abbrev pub panelQuestions : Shape → List ℕ → List Question
+panelQuestions s lent = callQuestions s [] (lengthsQuestion lent (flaggedWanted s)) []
 
 -- a refusal has no row, and both its numbers are 0
 abbrev pub noReading : Reading
 noReading = reading 0 none 0
 
 unfoldable pub panelCall : Shape → Memory → Said Reading
-panelCall s mem = answering noReading (firstNo (panelQuestions s mem)) (panelReading (mem .flags) (mem .totals))
+panelCall s mem = answering noReading (firstNo (panelQuestions s (flaggedLengths mem))) (panelReading (mem .flags) (mem .totals))
 
 -- ---- a full reading of the flags
 
 -- the first flagged row
 unfoldable pub firstFlagged : List ℕ → Found
 firstFlagged flags = rowOrNone (length flags) (firstNonzero flags)
+
+-- how many flags are read to find it: from the start of its block through its own, and none where no row is flagged
+abbrev pub readThrough : Found → ℕ
+readThrough (row i) = suc (i % 64)
+readThrough none = 0
+
+-- how many rows are flagged, the first of them, and the flags read to find it
+unfoldable pub fullReading : List ℕ → Reading
+fullReading flags = reading (countFlagged flags) (firstFlagged flags) (readThrough (firstFlagged flags))

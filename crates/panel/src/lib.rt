@@ -1,22 +1,26 @@
 // What the panel shows of the flagged rows: their number and the first of them, from the blocks' totals and one block of
-// flags at most.
+// flags at most. Below the call stands its act (`panel_lent`): what the call does where its questions have been passed.
+pub mod questions;
+
 use array_memory::blocks::BLOCK;
 use array_memory::blocks::block_end;
-use array_memory::memory::check_flags;
 use parity::Shape;
+use questions::check_panel;
 use shape::answer::First;
 use shape::byte::wide;
 use shape::sizes::Checked;
-use shape::sizes::check_shape;
+use shape::sizes::Sizes;
 ghost use mathlib.Core.Path.{_≡_};
+ghost use mathlib.Core.List.{[], _∷_};
 ghost use Prim.Native.Nat.{_≤_};
 ghost use lib.ListN.{length};
-ghost use Rattle.shape.specs.Answers.{accepted};
 ghost use Rattle.shape.specs.Lent.{was};
-ghost use Rattle.array_memory.specs.Blocks.{blocksOf};
-ghost use Rattle.array_memory.specs.Memory.{Memory, withFlagged};
-ghost use Rattle.panel.specs.Panel.{panelReading, panelCall};
-ghost use Rattle.panel.specs.Answers.{panelSays, summed, searched};
+ghost use Rattle.shape.specs.Shapes.{Passed};
+ghost use Rattle.array_memory.specs.Buffers.{wasFlagged};
+ghost use Rattle.array_memory.specs.Memory.{Memory};
+ghost use Rattle.panel.specs.Panel.{panelQuestions, panelCall};
+ghost use Rattle.panel.specs.Answers.{panelSays};
+ghost use Rattle.panel.specs.Reads.{summed, searched};
 
 // The panel's answer. A refused call's row says so, and its numbers are 0.
 pub struct Summary {
@@ -72,10 +76,10 @@ fn search_block(flags: &[u8]) -> Search
     Search { found: false, read }
 }
 
-// What flags and totals of their lengths tell. Only the first block whose total isn't 0 is lent to the search.
-fn read_blocks(flags: &[u8], totals: &[u8]) -> Summary
-    requires { ⌜ (length (now flags) ≤ 4096) × (length (now totals) ≡ blocksOf (length (now flags))) ⌝ }
-    ensures { λ r. ⌜ panelSays r ≡ accepted (panelReading (was flags) (was totals)) ⌝ }
+// A panel call whose questions have been passed. Only the first block whose total isn't 0 is lent to the search.
+pub fn panel_lent(shape: Shape, sizes: Sizes, flags: &[u8], totals: &[u8]) -> Summary
+    requires { ⌜ Passed (panelQuestions shape (length (now flags) ∷ length (now totals) ∷ [])) shape sizes ⌝ }
+    ensures { λ r. ⌜ ((mem : Memory) → panelCall shape (wasFlagged flags totals mem) ≡ panelSays r) ⌝ }
 {
     let all = sum_totals(totals);
     let total = all.sum;
@@ -107,14 +111,14 @@ fn read_blocks(flags: &[u8], totals: &[u8]) -> Summary
 
 // The panel call: the grand total, the first flagged row or none, and how many flags were read.
 pub fn panel(shape: Shape, flags: &[u8], totals: &[u8]) -> Summary
-    ensures { λ r. ⌜ ((mem : Memory) → panelCall shape (withFlagged (was flags) (was totals) mem) ≡ panelSays r) ⌝ }
+    ensures { λ r. ⌜ ((mem : Memory) → panelCall shape (wasFlagged flags totals mem) ≡ panelSays r) ⌝ }
 {
-    match check_flags(check_shape(shape), shape, flags.len(), totals.len()) {
+    match check_panel(shape, flags.len(), totals.len()) {
         Checked::Refused(number) => Summary {
             total: 0,
             first: First::Refused(number),
             read: 0,
         },
-        Checked::Taken(_) => read_blocks(flags, totals),
+        Checked::Taken(sizes) => panel_lent(shape, sizes, flags, totals),
     }
 }

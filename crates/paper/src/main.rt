@@ -1,6 +1,6 @@
 // The paper's figures for Example 1 (m = 512, k = 50), by the library: the reads of the naive way, Table I for q = 8
-// and q = 16, and the ones of the check matrix with more check columns (footnote 6). What it prints is held to the
-// paper's numbers in the file stdout.
+// and q = 16, in radix 2 and with q for the radix, and the ones of the check matrix with more check columns (footnote 6).
+// What it prints is held to the paper's numbers in the file stdout.
 use acam::matrix::matrix_of;
 use acam::order::ones;
 use cycle::Cycle;
@@ -12,9 +12,9 @@ use shape::sizes::check_shape;
 ghost use Prim.Native.Nat.{_*_, _≤_};
 ghost use lib.ListN.{length};
 
-fn example(digits: usize, errors: usize, width: usize, rows: usize) -> Shape {
+fn example(radix: usize, digits: usize, errors: usize, width: usize, rows: usize) -> Shape {
     Shape {
-        radix: 2,
+        radix,
         digits,
         errors,
         width,
@@ -89,7 +89,7 @@ fn naive_reads(shape: Shape) {
 
 // One row of Table I.
 fn table_row(errors: usize) {
-    let eight = example(3, errors, 50, 1);
+    let eight = example(2, 3, errors, 50, 1);
     match check_shape(eight) {
         Checked::Refused(_) => {}
         Checked::Taken(sizes) => {
@@ -101,7 +101,29 @@ fn table_row(errors: usize) {
             put(b" n ", columns);
             put(b" ones ", count_ones(&matrix));
             put(b" q8 ", lookups_made(eight, columns));
-            put(b" q16 ", lookups_made(example(4, errors, 50, 1), columns));
+            put(
+                b" q16 ",
+                lookups_made(example(2, 4, errors, 50, 1), columns),
+            );
+            end_line();
+        }
+    }
+}
+
+// The lookups of that row where q is the radix and there is one digit: the figures of Table I apply also to this case, the paper
+// says.
+fn whole_levels(errors: usize) {
+    let eight = example(8, 1, errors, 50, 1);
+    match check_shape(eight) {
+        Checked::Refused(_) => {}
+        Checked::Taken(sizes) => {
+            let columns = sizes.columns;
+            put(b"b 1 tau ", errors);
+            put(b" q8 ", lookups_made(eight, columns));
+            put(
+                b" q16 ",
+                lookups_made(example(16, 1, errors, 50, 1), columns),
+            );
             end_line();
         }
     }
@@ -109,7 +131,7 @@ fn table_row(errors: usize) {
 
 // The ones of 50 rule columns and r check columns, each of which has one, by the least shape that has r of them.
 fn wider(width: usize) {
-    let shape = example(3, 2, width, 1);
+    let shape = example(2, 3, 2, width, 1);
     match check_shape(shape) {
         Checked::Refused(_) => {}
         Checked::Taken(sizes) => {
@@ -123,10 +145,13 @@ fn wider(width: usize) {
 }
 
 fn main() {
-    naive_reads(example(3, 1, 50, 512));
+    naive_reads(example(2, 3, 1, 50, 512));
     table_row(1);
     table_row(2);
     table_row(3);
+    whole_levels(1);
+    whole_levels(2);
+    whole_levels(3);
     // footnote 6 goes on to r = 11; document 01 has at most 8 check columns, since a column is a byte
     wider(58);
     wider(121);

@@ -1,6 +1,9 @@
 -- The theorems on the definitions of specs/, and the laws that the crates above cite.
 pub mod ListLaws
 pub mod Filled
+pub mod Followed
+pub mod Alongside
+pub mod Greatest
 pub mod Remainders
 pub mod Sums
 pub mod Taken

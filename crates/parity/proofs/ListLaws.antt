@@ -1,4 +1,4 @@
--- Laws of specs/Lists.antt's words: tabulate, joined, keep, sumOver, every and everyTo, and of what holds of each entry of a list of numbers, of
+-- Laws of specs/Lists.antt's words: tabulate, joined, keep, sumOver, every and everyTo, of equal elements, and of what holds of each entry of a list of numbers, of
 -- each two in their order, and of one among them. Assumes nothing.
 use mathlib.Core.Path.{_≡_, refl, sym, ap, ap₂, _∙_}
 use mathlib.Core.Logic.{_⊎_, inl, inr, ⊎-elim}
@@ -49,6 +49,14 @@ module _ {ℓ} {A : Type ℓ} where
   tabulate-constant zero a = refl
   tabulate-constant (suc n) a =
       ap (λ xs. xs ++ (a ∷ [])) (tabulate-constant n a) ∙ replicate-append-replicate n 1 a ∙ ap (λ m. replicate m a) (add-one n)
+
+  -- ---- replicate
+
+  -- in each place, and where there is none
+  pub same-at : (n j : ℕ) (v : A) → getD (replicate n v) j v ≡ v
+  same-at zero j v = refl
+  same-at (suc n) zero v = refl
+  same-at (suc n) (suc j) v = same-at n j v
 
   -- ---- sumOver
 

@@ -46,7 +46,7 @@ Among c cs = (i : ℕ) × (i < length cs) × (getD cs i 0 ≡ c)
 abbrev pub Precedes : ℕ → ℕ → Type 0
 Precedes c d = (weight c < weight d) ⊎ ((weight c ≡ weight d) × (c < d))
 
--- each entry precedes those behind it; so no column stands twice
+-- each entry precedes those after it; so no column stands twice
 abbrev pub Ordered : List ℕ → Type 0
 Ordered cs = (i j : ℕ) → i < j → j < length cs → Precedes (getD cs i 0) (getD cs j 0)
 

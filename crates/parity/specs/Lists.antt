@@ -1,7 +1,7 @@
 -- The words on lists and sums that the definitions use.
-use mathlib.Core.Bool.{Bool, true, cond, _&&_}
+use mathlib.Core.Bool.{Bool, true, false, cond, _&&_}
 use mathlib.Core.List.{List, [], _∷_, _++_}
-use Prim.Native.Nat.{ℕ, zero, suc, _+_}
+use Prim.Native.Nat.{ℕ, zero, suc, _+_, max}
 use lib.Dec.{eqb}
 
 module _ {ℓ} {A : Type ℓ} where
@@ -30,6 +30,11 @@ module _ {ℓ} {A : Type ℓ} where
   sumOver [] f = 0
   sumOver (x ∷ xs) f = f x + sumOver xs f
 
+-- what a list makes of a thing, one element after the other, each of what the one before left
+abbrev pub followed {ℓ ℓ′} : {A : Type ℓ} {C : Type ℓ′} → (A → C → A) → A → List C → A
+followed next x [] = x
+followed next x (c ∷ cs) = followed next (next x c) cs
+
 -- f 0 + f 1 + .. + f (n − 1)
 abbrev pub sumTo : ℕ → (ℕ → ℕ) → ℕ
 sumTo zero f = 0
@@ -44,6 +49,18 @@ everyTo (suc n) p = everyTo n p && p n
 abbrev pub firstFrom : (ℕ → Bool) → ℕ → ℕ → ℕ
 firstFrom p zero i = i
 firstFrom p (suc n) i = cond (p i) i (firstFrom p n (suc i))
+
+-- the largest of the numbers, 0 where there is none
+abbrev pub greatest : List ℕ → ℕ
+greatest [] = 0
+greatest (x ∷ xs) = max x (greatest xs)
+
+-- two lists of one length, whose elements pass the test place by place
+abbrev pub alongside : (ℕ → ℕ → Bool) → List ℕ → List ℕ → Bool
+alongside p [] [] = true
+alongside p [] (y ∷ ys) = false
+alongside p (x ∷ xs) [] = false
+alongside p (x ∷ xs) (y ∷ ys) = p x y && alongside p xs ys
 
 -- a buffer filled from the front with the first elements of a list, as many as both have
 abbrev pub filledFrom : List ℕ → List ℕ → List ℕ

@@ -1,9 +1,10 @@
 -- The comparator, a row's match byte, what its match line makes of it (document 02, Card 4), and the input vector of a task lookup.
-use mathlib.Core.Bool.{Bool, true, false, cond, _&&_}
-use mathlib.Core.List.{List, [], _∷_, _++_}
+use mathlib.Core.Bool.{Bool, cond}
+use mathlib.Core.List.{List, _++_}
 use Prim.Native.Nat.{ℕ}
 use lib.Dec.{eqb, leb}
 use lib.ListN.{replicate}
+use Rattle.parity.specs.Lists.{alongside}
 use Rattle.parity.specs.Shape.{checks}
 use Rattle.parity.specs.declared.Shape.{Shape}
 
@@ -13,10 +14,7 @@ answers input cell = leb input cell
 
 -- every cell of the row answers 1 to its input
 abbrev pub allAnswer : List ℕ → List ℕ → Bool
-allAnswer [] [] = true
-allAnswer [] (v ∷ vs) = false
-allAnswer (x ∷ xs) [] = false
-allAnswer (x ∷ xs) (v ∷ vs) = answers x v && allAnswer xs vs
+allAnswer vector row = alongside answers vector row
 
 -- a row's match byte for a vector of as many inputs as it has cells
 unfoldable pub matchByte : List ℕ → List ℕ → ℕ

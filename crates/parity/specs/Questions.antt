@@ -4,7 +4,7 @@ use mathlib.Core.Bool.{Bool, cond, _&&_}
 use mathlib.Core.List.{List, [], _∷_, _++_}
 use Prim.Native.Nat.{ℕ, zero, suc}
 use lib.Dec.{leb, ltb, eqb}
-use Rattle.parity.specs.Lists.{every}
+use Rattle.parity.specs.Lists.{every, alongside}
 use Rattle.parity.specs.Shape.{levels, limit}
 use Rattle.parity.specs.Codeword.{isCodeword}
 use Rattle.parity.specs.declared.Shape.{Shape}
@@ -13,6 +13,9 @@ use Rattle.parity.specs.declared.Shape.{Shape}
 pub record Question : Type 0 where
   pub number : ℕ
   pub holds : Bool
+
+abbrev pub question : ℕ → Bool → Question
+question number holds = record { number = number; holds = holds }
 
 -- the number of the first no of a list of questions, asked in order; 0 where each answer is yes
 abbrev pub firstNo : List Question → ℕ
@@ -26,23 +29,23 @@ ifTaken (suc number) taken refused = refused
 
 -- 1: is ρ from 2 to 255?
 abbrev pub radixQuestion : Shape → Question
-radixQuestion s = record { number = 1; holds = leb 2 (s .radix) && leb (s .radix) 255 }
+radixQuestion s = question 1 (leb 2 (s .radix) && leb (s .radix) 255)
 
 -- 2: is b at least 1 and q at most 256?
 abbrev pub digitsQuestion : Shape → Question
-digitsQuestion s = record { number = 2; holds = leb 1 (s .digits) && leb (levels s) 256 }
+digitsQuestion s = question 2 (leb 1 (s .digits) && leb (levels s) 256)
 
 -- 3: is τ 1, 2 or 3?
 abbrev pub errorsQuestion : Shape → Question
-errorsQuestion s = record { number = 3; holds = leb 1 (s .errors) && leb (s .errors) 3 }
+errorsQuestion s = question 3 (leb 1 (s .errors) && leb (s .errors) 3)
 
 -- 4: is k from 1 to the limit for τ?
 abbrev pub widthQuestion : Shape → Question
-widthQuestion s = record { number = 4; holds = leb 1 (s .width) && leb (s .width) (limit (s .errors)) }
+widthQuestion s = question 4 (leb 1 (s .width) && leb (s .width) (limit (s .errors)))
 
 -- 5: is m from 1 to 4,096?
 abbrev pub rowsQuestion : Shape → Question
-rowsQuestion s = record { number = 5; holds = leb 1 (s .rows) && leb (s .rows) 4096 }
+rowsQuestion s = question 5 (leb 1 (s .rows) && leb (s .rows) 4096)
 
 -- the questions on a shape, in their order: those on its levels, then those on its columns and rows
 abbrev pub columnQuestions : Shape → List Question
@@ -61,32 +64,33 @@ Taken s = shapeRefusal s ≡ 0
 
 -- 15: is the number z of low digits to skip below b?
 abbrev pub skipQuestion : Shape → ℕ → Question
-skipQuestion s z = record { number = 15; holds = ltb z (s .digits) }
+skipQuestion s z = question 15 (ltb z (s .digits))
 
--- 6: has a lent buffer exactly its length?
-abbrev pub lengthQuestion : ℕ → ℕ → Question
-lengthQuestion lent wanted = record { number = 6; holds = eqb lent wanted }
+-- 6: has each lent buffer exactly its length? The lengths lent, and beside them those wanted.
+abbrev pub lengthsQuestion : List ℕ → List ℕ → Question
+lengthsQuestion lent wanted = question 6 (alongside eqb lent wanted)
 
 -- 7: is a row's or a column's number below its count?
 abbrev pub placeQuestion : ℕ → ℕ → Question
-placeQuestion place count = record { number = 7; holds = ltb place count }
+placeQuestion place count = question 7 (ltb place count)
 
 -- 8: is every given level below q?
-abbrev pub levelsQuestion : Shape → List ℕ → Question
-levelsQuestion s given = record { number = 8; holds = every (λ v. ltb v (levels s)) given }
+abbrev pub levelsQuestion : ℕ → List ℕ → Question
+levelsQuestion q given = question 8 (every (λ v. ltb v q) given)
 
 -- 8: is every input below q?
-abbrev pub inputsQuestion : Shape → List ℕ → Question
-inputsQuestion s inputs = record { number = 8; holds = every (λ v. ltb v (levels s)) inputs }
+abbrev pub inputsQuestion : ℕ → List ℕ → Question
+inputsQuestion q inputs = question 8 (every (λ v. ltb v q) inputs)
 
 -- 16: is a line byte to set 0, sound, or 1, dead?
 abbrev pub lineQuestion : ℕ → Question
-lineQuestion byte = record { number = 16; holds = leb byte 1 }
+lineQuestion byte = question 16 (leb byte 1)
 
 -- 17: is a finished row sound?
 abbrev pub soundQuestion : Shape → List ℕ → Question
-soundQuestion s row = record { number = 17; holds = isCodeword s row }
+soundQuestion s row = question 17 (isCodeword s row)
 
--- The questions of a call, in their order: those on the shape; on further numbers; 6 on the lengths of what is lent; and the call's own.
-abbrev pub callQuestions : Shape → List Question → List Question → List Question → List Question
-callQuestions s numbers lengths own = shapeQuestions s ++ numbers ++ lengths ++ own
+-- The questions of a call, in their order: those on the shape; on further numbers; 6 on what is lent of the memory; and those on its other arguments,
+-- of which 6 on the buffers among them comes first.
+abbrev pub callQuestions : Shape → List Question → Question → List Question → List Question
+callQuestions s numbers lent arguments = shapeQuestions s ++ numbers ++ lent ∷ arguments

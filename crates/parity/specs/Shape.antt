@@ -1,6 +1,6 @@
--- Document 01, "Shape of an array": digits and levels, the limits of k, and the check columns and columns of a shape.
+-- Document 01, "Shape of an array": digits and levels, the limits of k, and the check columns, columns and cells of a shape.
 use mathlib.Core.Bool.{cond}
-use Prim.Native.Nat.{ℕ, _+_, _-_, _/_, _%_, _^_}
+use Prim.Native.Nat.{ℕ, _+_, _-_, _*_, _/_, _%_, _^_}
 use lib.Dec.{eqb, leb}
 use Rattle.parity.specs.Lists.{firstFrom}
 use Rattle.parity.specs.declared.Shape.{Shape}
@@ -36,3 +36,7 @@ checks s = redundancy (s .errors) (s .width)
 -- n, the columns of a shape
 unfoldable pub columns : Shape → ℕ
 columns s = s .width + checks s
+
+-- m × n, the cells of an array
+unfoldable pub cellCount : Shape → ℕ
+cellCount s = s .rows * columns s

@@ -1,18 +1,23 @@
 // Runs one job: reads it from standard input and writes what it prints to standard output.
+use job::MAX_TEXT;
+use job::MAX_TOTALS;
+use job_parse::MAX_BYTES;
+use job_parse::MAX_CELLS;
 use libc::STDIN_FILENO;
 use libc::STDOUT_FILENO;
+use shape::sizes::Sizes;
 
 fn main() {
     // one byte past the limit is enough to know that a job is too long
-    let mut input = [0u8; 32769];
+    let mut input = [0u8; MAX_BYTES + 1];
     let got = io::read_full(STDIN_FILENO, &mut input);
-    let mut cells = [0u8; 16384];
-    let mut lines = [0u8; 4096];
-    let mut counters = [0u8; 4096];
-    let mut flags = [0u8; 4096];
-    let mut totals = [0u8; 64];
-    let mut matches = [0u8; 4096];
-    let mut out = [0u8; 200000];
+    let mut cells = [0u8; MAX_CELLS];
+    let mut lines = [0u8; Sizes::MAX_ROWS];
+    let mut counters = [0u8; Sizes::MAX_ROWS];
+    let mut flags = [0u8; Sizes::MAX_ROWS];
+    let mut totals = [0u8; MAX_TOTALS];
+    let mut matches = [0u8; Sizes::MAX_ROWS];
+    let mut out = [0u8; MAX_TEXT];
     let end = job::job(
         &input[..got],
         &mut cells,
@@ -23,7 +28,7 @@ fn main() {
         &mut matches,
         &mut out,
     );
-    if 200000 < end {
+    if MAX_TEXT < end {
         return;
     }
     io::write_all(STDOUT_FILENO, &out[..end]);

@@ -1,5 +1,5 @@
 -- Document 01, "Schedule": the lookups of a detection cycle (the paper's test vectors), in their order. A cycle skips a number z of low digits
--- (document 02, Card 2), and opens with the all-zero vector (Card 4); where z is 0 the tests behind the opening are document 01's.
+-- (document 02, Card 2), and opens with the all-zero vector (Card 4); where z is 0 the tests after the opening are document 01's.
 use mathlib.Core.Bool.{Bool, true, false, cond, not}
 use mathlib.Core.List.{List, [], _∷_, _++_, map}
 use Prim.Native.Nat.{ℕ, suc, _-_, _*_, _/_, _%_, _^_}

@@ -1,22 +1,24 @@
--- The first no to a call: the questions on the shape, which `check_shape` answers, come first, then those on what the call is given.
+-- The first no to a call: the questions on the shape, which `check_shape` answers, come first, then those that are asked after them, one by one.
 -- Assumes nothing.
 use mathlib.Core.Path.{_≡_, refl, sym, _∙_, ap, ap₂}
-use mathlib.Core.Bool.{Bool, true, false, cond, and-eq-true-iff, true≢false}
+use mathlib.Core.Bool.{Bool, true, false, cond, _&&_, and-eq-true-iff, true≢false}
 use mathlib.Core.List.{List, [], _∷_, _++_}
 use Prim.Native.Nat.{ℕ, zero, suc, _<_}
 use native.Mathlib.Omega.{arith}
-use lib.Dec.{ltb}
+use lib.Dec.{eqb, ltb}
 use borrow.Author.Tests.{ltb-true}
-use Rattle.parity.specs.Lists.{every}
-use Rattle.parity.specs.Shape.{levels, checks, columns}
-use Rattle.parity.specs.Questions.{Question, firstNo, shapeQuestions, shapeRefusal, Taken}
+use lib.ListN.{length, getD}
+use Rattle.parity.specs.Lists.{every, alongside}
+use Rattle.parity.specs.Shape.{levels}
+use Rattle.parity.specs.Questions.{Question, firstNo, shapeQuestions, shapeRefusal, Taken, lengthsQuestion, callQuestions}
 use Rattle.parity.specs.declared.Shape.{Shape}
+use Rattle.parity.proofs.Alongside.{alongside-equal, alongside-append}
 use Rattle.parity.proofs.Taken.{first-yes}
 use Rattle.shape.specs.declared.sizes.Sizes.{Sizes}
 use Rattle.shape.specs.declared.sizes.Checked.{Checked}
 use Rattle.shape.specs.declared.sizes.Checked.the-variants as checked
 use Rattle.shape.specs.Answers.{Said, accepted, refused, answering}
-use Rattle.shape.specs.Shapes.{sizesOf, noSizes, checkedSays, sizesIf, shapeSays, thenSays, TellsOf}
+use Rattle.shape.specs.Shapes.{sizesOf, noSizes, checkedSays, sizesIf, shapeSays, Passed, sizesIn, thenSays}
 
 -- ---- one list of questions after another
 
@@ -50,10 +52,25 @@ first-found (q ∷ qs) more n pos e = go (q .holds) (first-found qs more n pos) 
     go true rest e = rest e
     go false rest e = e
 
--- behind the same questions the first no is that of what follows
-pub first-behind : (qs xs ys : List Question) → firstNo xs ≡ firstNo ys → firstNo (qs ++ xs) ≡ firstNo (qs ++ ys)
-first-behind [] xs ys e = e
-first-behind (q ∷ qs) xs ys e = ap (λ n. cond (q .holds) n (q .number)) (first-behind qs xs ys e)
+-- after the same questions the first no is that of what follows
+pub first-after : (qs xs ys : List Question) → firstNo xs ≡ firstNo ys → firstNo (qs ++ xs) ≡ firstNo (qs ++ ys)
+first-after [] xs ys e = e
+first-after (q ∷ qs) xs ys e = ap (λ n. cond (q .holds) n (q .number)) (first-after qs xs ys e)
+
+-- question 6 on two lists of buffers, one after the other, is question 6 on each
+pub lengths-apart :
+    (xs xs′ ys ys′ : List ℕ) (more : List Question) → length xs ≡ length xs′
+    → firstNo (lengthsQuestion (xs ++ ys) (xs′ ++ ys′) ∷ more) ≡ firstNo (lengthsQuestion xs xs′ ∷ lengthsQuestion ys ys′ ∷ more)
+lengths-apart xs xs′ ys ys′ more e =
+    ap (λ t. cond t (firstNo more) 6) (alongside-append xs xs′ ys ys′ e) ∙ both (alongside eqb xs xs′) (alongside eqb ys ys′)
+  where
+    both : (a b : Bool) → cond (a && b) (firstNo more) 6 ≡ cond a (cond b (firstNo more) 6) 6
+    both true b = refl
+    both false b = refl
+
+-- where it holds, each length that is lent is the one wanted in its place
+pub length-lent : (lent wanted : List ℕ) → lengthsQuestion lent wanted .holds ≡ true → (i : ℕ) → getD lent i 0 ≡ getD wanted i 0
+length-lent lent wanted e i = ap (λ lengths. getD lengths i 0) (alongside-equal lent wanted e)
 
 -- ---- what an answer tells of the first no
 
@@ -72,126 +89,109 @@ module _ {A : Type 0} (nothing value : A) where
 pub told : {c d : Checked} {answer : Said Sizes} → checkedSays c ≡ answer → c ≡ d → checkedSays d ≡ answer
 told e same = ap checkedSays (sym same) ∙ e
 
--- of a shape that is taken: its sizes
-pub record Passed (s : Shape) (sizes : Sizes) : Type 0 where
-  pub taken : Taken s
-  pub levels : sizes .levels ≡ levels s
-  pub checks : sizes .checks ≡ checks s
-  pub columns : sizes .columns ≡ columns s
-
-pub passed : (s : Shape) (sizes : Sizes) → accepted sizes ≡ shapeSays s → Passed s sizes
-passed s sizes e =
-    let both = said-value noSizes (sizesOf s) (shapeRefusal s) sizes e in
-    record {
-      taken = both .0;
-      levels = ap (λ z. z .levels) (both .1);
-      checks = ap (λ z. z .checks) (both .1);
-      columns = ap (λ z. z .columns) (both .1);
-    }
-
--- ---- what the answer to a list of questions tells, and what it is
-
--- where the sizes are given: no question fails
-pub record Passes (questions : List Question) (s : Shape) (z : Sizes) : Type 0 where
-  pub none : firstNo questions ≡ 0
-  pub sizes : z ≡ sizesOf s
-
 module _ (questions : List Question) (s : Shape) where
-  pub passes : (z : Sizes) → accepted z ≡ sizesIf (firstNo questions) s → Passes questions s z
+  -- where the sizes are given, no question fails; a refusal's number is that of the first no
+  pub passes : (z : Sizes) → accepted z ≡ sizesIf (firstNo questions) s → Passed questions s z
   passes z e = let both = said-value noSizes (sizesOf s) (firstNo questions) z e in record { none = both .0; sizes = both .1 }
 
   pub fails : (n : ℕ) → refused noSizes n ≡ sizesIf (firstNo questions) s → (firstNo questions ≡ n) × (0 < n)
   fails n e = said-number noSizes (sizesOf s) (firstNo questions) n e
 
-  pub says-sizes : (z : Sizes) → firstNo questions ≡ 0 → z ≡ sizesOf s → accepted z ≡ sizesIf (firstNo questions) s
-  says-sizes z none e = ap accepted e ∙ ap (λ n. sizesIf n s) (sym none)
+  -- .. and so it is said
+  pub says-sizes : (z : Sizes) → Passed questions s z → accepted z ≡ sizesIf (firstNo questions) s
+  says-sizes z p = ap accepted (p .sizes) ∙ ap (λ n. sizesIf n s) (sym (p .none))
 
   pub says-number : (n : ℕ) → (firstNo questions ≡ n) × (0 < n) → refused noSizes n ≡ sizesIf (firstNo questions) s
   says-number zero e = absurd (omega arith)
   says-number (suc n) e = ap (λ n. sizesIf n s) (sym (e .0))
 
--- ---- the same where more is asked behind questions that were answered
-module _ (qs more : List Question) (s : Shape) where
-  pub then-refused : (n : ℕ) → refused noSizes n ≡ sizesIf (firstNo qs) s → refused noSizes n ≡ sizesIf (firstNo (qs ++ more)) s
-  then-refused n e =
-      let found = fails qs s n e in
-      says-number (qs ++ more) s n (first-found qs more n (found .1) (found .0), found .1)
+-- ---- questions after an answer
 
-  module _ (numbers : numbered qs ≡ true) where
-    pub then-number : firstNo qs ≡ 0 → (n : ℕ) → firstNo more ≡ suc n → refused noSizes (suc n) ≡ sizesIf (firstNo (qs ++ more)) s
-    then-number none n e = says-number (qs ++ more) s (suc n) (first-rest qs more numbers none ∙ e, omega arith)
+-- what is said after the sizes, where a question more holds and where it fails; and after a refusal
+module _ {asked : Checked} {z : Sizes} (e : asked ≡ checked.Taken z) (q : Question) where
+  pub after-yes : q .holds ≡ true → accepted z ≡ thenSays asked (q ∷ [])
+  after-yes right = ap (λ b. answering noSizes (cond b 0 (q .number)) z) (sym right) ∙ ap (λ c. thenSays c (q ∷ [])) (sym e)
 
-    pub then-sizes : {z : Sizes} → Passes qs s z → firstNo more ≡ 0 → accepted z ≡ sizesIf (firstNo (qs ++ more)) s
-    then-sizes {z} p e = says-sizes (qs ++ more) s z (first-rest qs more numbers (p .none) ∙ e) (p .sizes)
+  pub after-no : q .holds ≡ false → 0 < q .number → refused noSizes (q .number) ≡ thenSays asked (q ∷ [])
+  after-no wrong pos = go (q .number) pos ∙ ap (λ b. answering noSizes (cond b 0 (q .number)) z) (sym wrong) ∙ ap (λ c. thenSays c (q ∷ [])) (sym e)
+    where
+      go : (n : ℕ) → 0 < n → refused noSizes n ≡ answering noSizes n z
+      go zero pos = absurd (omega arith)
+      go (suc n) pos = refl
 
--- ---- the same behind an answer
+pub after-refusal : {asked : Checked} {n : ℕ} → asked ≡ checked.Refused n → (more : List Question) → refused noSizes n ≡ thenSays asked more
+after-refusal e more = ap (λ c. thenSays c more) (sym e)
 
--- what is said behind the sizes, and behind a refusal
-module _ {asked : Checked} {z : Sizes} (e : asked ≡ checked.Taken z) (more : List Question) where
-  pub behind-number : (n : ℕ) → firstNo more ≡ suc n → refused noSizes (suc n) ≡ thenSays asked more
-  behind-number n found = ap (λ m. answering noSizes m z) (sym found) ∙ ap (λ c. thenSays c more) (sym e)
-
-  pub behind-sizes : firstNo more ≡ 0 → accepted z ≡ thenSays asked more
-  behind-sizes none = ap (λ m. answering noSizes m z) (sym none) ∙ ap (λ c. thenSays c more) (sym e)
-
-pub behind-refusal : {asked : Checked} {n : ℕ} → asked ≡ checked.Refused n → (more : List Question) → refused noSizes n ≡ thenSays asked more
-behind-refusal e more = ap (λ c. thenSays c more) (sym e)
-
--- two lists of questions behind an answer, one after the other
-pub behind-both :
-    (asked next : Checked) (xs ys : List Question) → numbered xs ≡ true → checkedSays next ≡ thenSays asked xs → thenSays next ys ≡ thenSays asked (xs ++ ys)
-behind-both (checked.Taken z) (checked.Taken y) xs ys numbers e =
-    let both = said-value noSizes z (firstNo xs) y e in
-    ap₂ (answering noSizes) (sym (first-rest xs ys numbers (both .0))) (both .1)
-behind-both (checked.Taken z) (checked.Refused n) xs ys numbers e =
-    let both = said-number noSizes z (firstNo xs) n e in
-    e ∙ ap (λ m. answering noSizes m z) (both .0 ∙ sym (first-found xs ys n (both .1) (both .0)))
-behind-both (checked.Refused m) (checked.Taken y) xs ys numbers e = absurd (true≢false (ap (λ a. a .taken) e))
-behind-both (checked.Refused m) (checked.Refused n) xs ys numbers e = e
-
--- further questions keep what an answer tells of its shape
-pub behind-tells : (s : Shape) (asked next : Checked) (xs : List Question) → checkedSays next ≡ thenSays asked xs → TellsOf s asked → TellsOf s next
-behind-tells s (checked.Taken z) (checked.Taken y) xs e tells = (tells .0, said-value noSizes z (firstNo xs) y e .1 ∙ tells .1)
-behind-tells s (checked.Refused m) (checked.Taken y) xs e tells = absurd (true≢false (ap (λ a. a .taken) e))
-behind-tells s asked (checked.Refused n) xs e tells = tt
-
--- an answer to questions that begin with those on the shape tells of it ..
-pub answer-tells : (s : Shape) (c : Checked) (numbers : List Question) → checkedSays c ≡ sizesIf (firstNo (shapeQuestions s ++ numbers)) s → TellsOf s c
+-- an answer to the questions on a shape
+pub shape-asked : (s : Shape) (c : Checked) → checkedSays c ≡ shapeSays s → checkedSays c ≡ sizesIf (firstNo (shapeQuestions s)) s
 unfolding shapeRefusal
-answer-tells s (checked.Taken z) numbers e =
-    let p = passes (shapeQuestions s ++ numbers) s z e in
-    (first-none (shapeQuestions s) numbers refl (p .none) .0, p .sizes)
-answer-tells s (checked.Refused n) numbers e = tt
+shape-asked s c e = e
 
--- .. and what is said behind it is what all the questions are answered with
-pub answer-then :
-    (qs more : List Question) (s : Shape) (c : Checked) → numbered qs ≡ true → checkedSays c ≡ sizesIf (firstNo qs) s
-    → thenSays c more ≡ sizesIf (firstNo (qs ++ more)) s
-answer-then qs more s (checked.Taken z) numbers e =
+-- where no question fails, the sizes in the answer to them are the shape's ..
+pub sizes-told : (qs : List Question) (s : Shape) (c : Checked) → checkedSays c ≡ sizesIf (firstNo qs) s → firstNo qs ≡ 0 → sizesIn c ≡ sizesOf s
+sizes-told qs s c e none = ap (λ a. a .value) (e ∙ ap (λ n. sizesIf n s) none)
+
+-- .. and so are those in the answer to the questions on the shape, where more was asked since
+pub sizes-known :
+    (s : Shape) (c : Checked) (z : Sizes) (more : List Question) → checkedSays c ≡ shapeSays s → z ≡ sizesIn c
+    → firstNo (shapeQuestions s ++ more) ≡ 0 → z ≡ sizesOf s
+sizes-known s c z more e same none =
+    same ∙ sizes-told (shapeQuestions s) s c (shape-asked s c e) (first-none (shapeQuestions s) more refl none .0)
+
+-- A question more is answered as all the questions are, where the test by the sizes in hand is the question's own.
+pub ask :
+    (qs : List Question) (s : Shape) (asked next : Checked) (tested q : Question) → numbered qs ≡ true → checkedSays asked ≡ sizesIf (firstNo qs) s
+    → checkedSays next ≡ thenSays asked (tested ∷ []) → (Passed qs s (sizesIn asked) → tested ≡ q)
+    → checkedSays next ≡ sizesIf (firstNo (qs ++ q ∷ [])) s
+ask qs s (checked.Taken z) next tested q numbers e more same =
     let p = passes qs s z e in
-    ap₂ (answering noSizes) (sym (first-rest qs more numbers (p .none))) (p .sizes)
-answer-then qs more s (checked.Refused n) numbers e = then-refused qs more s n e
+    more ∙ ap₂ (answering noSizes) (ap (λ q. firstNo (q ∷ [])) (same p) ∙ sym (first-rest qs (q ∷ []) numbers (p .none))) (p .sizes)
+ask qs s (checked.Refused n) next tested q numbers e more same =
+    let found = fails qs s n e in
+    more ∙ says-number (qs ++ q ∷ []) s n (first-found qs (q ∷ []) n (found .1) (found .0), found .1)
 
 -- of a shape that is taken, the first no is that of the other questions
 pub taken-rest : (s : Shape) → Taken s → (more : List Question) → firstNo (shapeQuestions s ++ more) ≡ firstNo more
 unfolding shapeRefusal
 taken-rest s t more = first-rest (shapeQuestions s) more refl t
 
--- .. also where it has the number of a question
-pub taken-fails :
-    (s : Shape) → Taken s → (more : List Question) (n : ℕ) → firstNo more ≡ suc n → (firstNo (shapeQuestions s ++ more) ≡ suc n) × (0 < suc n)
-taken-fails s t more n e = (taken-rest s t more ∙ e, omega arith)
-
--- of a shape that is refused, it is the shape's own
-pub refused-rest :
-    (s : Shape) (n : ℕ) → refused noSizes n ≡ shapeSays s → (more : List Question) → (firstNo (shapeQuestions s ++ more) ≡ n) × (0 < n)
+-- .. and where none fails, the shape is taken
+pub rest-taken : (s : Shape) (more : List Question) → firstNo (shapeQuestions s ++ more) ≡ 0 → Taken s × (firstNo more ≡ 0)
 unfolding shapeRefusal
-refused-rest s n e more =
-    let both = said-number noSizes (sizesOf s) (shapeRefusal s) n e in
-    (first-found (shapeQuestions s) more n (both .1) (both .0), both .1)
+rest-taken s more none = first-none (shapeQuestions s) more refl none
 
--- ---- question 8: its test, where the sizes' levels are the shape's
+-- ---- all the questions of a call
+
+module _ (s : Shape) (ns : List Question) (lq : Question) (more : List Question) where
+  -- where none fails
+  pub record CallPassed : Type 0 where
+    pub taken : Taken s
+    pub numbers : firstNo ns ≡ 0
+    pub lent : lq .holds ≡ true
+    pub arguments : firstNo more ≡ 0
+
+  pub call-passed : numbered ns ≡ true → 0 < lq .number → firstNo (callQuestions s ns lq more) ≡ 0 → CallPassed
+  call-passed n pos none =
+      let shape = rest-taken s (ns ++ lq ∷ more) none in
+      let parts = first-none ns (lq ∷ more) n (shape .1) in
+      let last = first-yes (lq .holds) (firstNo more) (lq .number) pos (parts .1) in
+      record { taken = shape .0; numbers = parts .0; lent = last .0; arguments = last .1 }
+
+  -- of a shape that is taken, and buffers of their lengths, the first no is that to the numbers and the other arguments
+  pub call-rest : Taken s → lq .holds ≡ true → firstNo (callQuestions s ns lq more) ≡ firstNo (ns ++ more)
+  call-rest t sized =
+      taken-rest s t (ns ++ lq ∷ more) ∙ first-after ns (lq ∷ more) more (ap (λ b. cond b (firstNo more) (lq .number)) sized)
+
+-- ---- question 8: its test, where the number of levels in hand is the shape's
 pub levels-tested :
     {q : ℕ} {result : Bool} (s : Shape) → q ≡ levels s → (given : List ℕ) → result ≡ every (λ v. ltb v q) given
     → every (λ v. ltb v (levels s)) given ≡ result
 levels-tested s e given tested = ap (λ q. every (λ v. ltb v q) given) (sym e) ∙ sym tested
+
+-- ---- the answer to all the questions of a call, by its cases
+module _ (questions : List Question) (s : Shape) (answer : Checked) (e : checkedSays answer ≡ sizesIf (firstNo questions) s) where
+  pub door-passed : {z : Sizes} → answer ≡ checked.Taken z → Passed questions s z
+  door-passed {z} is = passes questions s z (told e is)
+
+  pub door-refused : (n : ℕ) → answer ≡ checked.Refused n → (firstNo questions ≡ n) × (0 < n)
+  door-refused n is = fails questions s n (told e is)

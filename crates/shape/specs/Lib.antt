@@ -2,3 +2,4 @@
 pub mod Lent
 pub mod Answers
 pub mod Shapes
+pub mod Bounds

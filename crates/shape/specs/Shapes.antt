@@ -1,9 +1,8 @@
--- The answer to the questions on a shape, and to those behind them.
+-- The answer to the questions on a shape, and to those that are asked after them.
 use mathlib.Core.Path.{_≡_}
 use mathlib.Core.List.{List}
 use Prim.Native.Nat.{ℕ}
-use Rattle.parity.specs.Shape.{levels, checks, columns}
-use Rattle.parity.specs.Questions as questions
+use Rattle.parity.specs.Shape.{levels, checks, columns, cellCount}
 use Rattle.parity.specs.Questions.{Question, firstNo, shapeRefusal}
 use Rattle.parity.specs.declared.Shape.{Shape}
 use Rattle.shape.specs.declared.sizes.Sizes.{Sizes}
@@ -11,13 +10,13 @@ use Rattle.shape.specs.declared.sizes.Checked.{Checked}
 use Rattle.shape.specs.declared.sizes.Checked.the-variants.{Taken, Refused}
 use Rattle.shape.specs.Answers.{Said, accepted, refused, answering}
 
--- q, r and n of a shape
+-- q, r, n and m × n of a shape
 abbrev pub sizesOf : Shape → Sizes
-sizesOf s = record { levels = levels s; checks = checks s; columns = columns s }
+sizesOf s = record { levels = levels s; checks = checks s; columns = columns s; cells = cellCount s }
 
 -- what stands for the sizes of a shape that is refused
 abbrev pub noSizes : Sizes
-noSizes = record { levels = 0; checks = 0; columns = 0 }
+noSizes = record { levels = 0; checks = 0; columns = 0; cells = 0 }
 
 -- the answer, case by case
 abbrev pub checkedSays : Checked → Said Sizes
@@ -32,12 +31,18 @@ sizesIf number s = answering noSizes number (sizesOf s)
 abbrev pub shapeSays : Shape → Said Sizes
 shapeSays s = sizesIf (shapeRefusal s) s
 
--- Only for the code's own contracts: an answer, and then further questions. A refusal stays; behind sizes the first no of these is told.
+-- What an act asks of its caller: no question of the call fails, and the sizes that are given are those of its shape.
+pub record Passed (questions : List Question) (s : Shape) (given : Sizes) : Type 0 where
+  pub none : firstNo questions ≡ 0
+  pub sizes : given ≡ sizesOf s
+
+-- ---- these only serve the code's own contracts
+
+-- the sizes in an answer
+abbrev pub sizesIn : Checked → Sizes
+sizesIn answer = checkedSays answer .value
+
+-- an answer, and then further questions: a refusal stays; after sizes the first no of these is told
 abbrev pub thenSays : Checked → List Question → Said Sizes
 thenSays (Taken sizes) more = answering noSizes (firstNo more) sizes
 thenSays (Refused number) more = refused noSizes number
-
--- an answer that was given to this shape: where it has sizes, the shape is taken and they are its own
-abbrev pub TellsOf : Shape → Checked → Type 0
-TellsOf s (Taken sizes) = questions.Taken s × (sizes ≡ sizesOf s)
-TellsOf s (Refused number) = Unit {0}

@@ -1,9 +1,9 @@
 // A byte read as a number, bytes filled with one value or copied, the largest of them, and how many differ.
 ghost use mathlib.Core.Path.{_≡_};
-ghost use Prim.Native.Nat.{ℕ, _≤_, _<_};
 ghost use lib.Dec.{ltb};
 ghost use lib.ListN.{length, replicate};
-ghost use Rattle.parity.specs.Lists.{every, filledFrom, differences};
+ghost use Rattle.parity.specs.Lists.{every, greatest, filledFrom, differences};
+ghost use Rattle.shape.specs.Bounds.{Comparable};
 ghost use Rattle.shape.specs.Lent.{was, left};
 
 // As a function of its own, so that a byte read from a buffer asks for its place alone.
@@ -37,10 +37,9 @@ pub fn copy(from: &[u8], to: &mut [u8])
     }
 }
 
-// The largest of the bytes, 0 where there is none: it is below a bound exactly where all of them are. No byte ends the loop,
-// so that it is compiled to vector code.
+// The largest of the bytes, 0 where there is none. No byte ends the loop, so that it is compiled to vector code.
 pub fn largest(bytes: &[u8]) -> u8
-    ensures { λ r. ⌜ ((bound : ℕ) → 0 < bound → every (λ v. ltb v bound) (was bytes) ≡ ltb r bound) ⌝ }
+    ensures { λ r. ⌜ r ≡ greatest (was bytes) ⌝ }
 {
     let mut most: u8 = 0;
     let mut i: usize = 0;
@@ -54,10 +53,20 @@ pub fn largest(bytes: &[u8]) -> u8
     most
 }
 
+// Whether every byte is below a bound: the largest is.
+pub fn all_below(bytes: &[u8], bound: usize) -> bool
+    ensures { λ r. ⌜ r ≡ every (λ v. ltb v bound) (was bytes) ⌝ }
+{
+    if bytes.len() == 0 {
+        return true;
+    }
+    wide(largest(bytes)) < bound
+}
+
 // In how many places the bytes of two buffers of one length differ. The count is a byte, like what is compared, so that the loop
 // is compiled to vector code of as many lanes.
 pub fn count_differences(one: &[u8], other: &[u8]) -> u8
-    requires { ⌜ (length (now one) ≡ length (now other)) × (length (now one) ≤ 255) ⌝ }
+    requires { ⌜ Comparable (length (now one)) (length (now other)) ⌝ }
     ensures { λ r. ⌜ r ≡ differences (was one) (was other) ⌝ }
 {
     let mut count: u8 = 0;

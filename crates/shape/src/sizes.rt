@@ -3,10 +3,11 @@ use super::byte::wide;
 use parity::Shape;
 ghost use mathlib.Core.Path.{_≡_};
 ghost use mathlib.Core.Bool.{cond};
-ghost use Prim.Native.Nat.{_^_, _≤_};
+ghost use Prim.Native.Nat.{_^_};
 ghost use lib.Dec.{leb};
 ghost use Rattle.parity.specs.Shape.{largest, redundancy, levels as levelsOf};
 ghost use Rattle.parity.specs.Questions.{firstNo, columnQuestions};
+ghost use Rattle.shape.specs.Bounds.{Within};
 ghost use Rattle.shape.specs.Shapes.{checkedSays, sizesIf, shapeSays};
 
 // The largest k for each τ (row τ − 1) and r (column r − 1).
@@ -24,6 +25,8 @@ pub struct Sizes {
     pub checks: usize,
     // n = k + r
     pub columns: usize,
+    // m × n
+    pub cells: usize,
 }
 
 // The limits of questions 1 to 5. The largest k for each τ stands in the table above.
@@ -67,7 +70,7 @@ pub enum Checked {
 
 // q, or 257 where ρ^b is above 256: the power stops as soon as it passes the limit.
 fn capped_power(radix: usize, digits: usize) -> usize
-    requires { ⌜ (2 ≤ radix) × (radix ≤ 255) ⌝ }
+    requires { ⌜ Within 2 radix 255 ⌝ }
     ensures { λ r. ⌜ r ≡ cond (leb (radix ^ digits) 256) (radix ^ digits) 257 ⌝ }
 {
     let mut power: usize = 1;
@@ -84,7 +87,8 @@ fn capped_power(radix: usize, digits: usize) -> usize
 
 // The largest k that r check columns carry for τ.
 fn carried(errors: usize, checks: usize) -> usize
-    requires { ⌜ ((1 ≤ errors) × (errors ≤ 3)) × ((1 ≤ checks) × (checks ≤ 8)) ⌝ }
+    requires { ⌜ Within 1 errors 3 ⌝ }
+    requires { ⌜ Within 1 checks 8 ⌝ }
     ensures { λ r. ⌜ r ≡ largest errors checks ⌝ }
 {
     wide(LARGEST[errors - 1][checks - 1])
@@ -92,7 +96,7 @@ fn carried(errors: usize, checks: usize) -> usize
 
 // r, the least number of check columns that carries k, or 9 where none does.
 fn least_checks(errors: usize, width: usize) -> usize
-    requires { ⌜ (1 ≤ errors) × (errors ≤ 3) ⌝ }
+    requires { ⌜ Within 1 errors 3 ⌝ }
     ensures { λ r. ⌜ r ≡ redundancy errors width ⌝ }
 {
     let mut checks: usize = 1;
@@ -132,10 +136,13 @@ fn check_columns(shape: Shape, levels: usize) -> Checked
     if Sizes::MAX_ROWS < rows {
         return Checked::Refused(5);
     }
+    let columns = width + checks;
+    let cells = rows * columns;
     Checked::Taken(Sizes {
         levels,
         checks,
-        columns: width + checks,
+        columns,
+        cells,
     })
 }
 

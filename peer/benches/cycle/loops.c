@@ -50,7 +50,7 @@ static size_t block_count(size_t rows)
     return (rows + BLOCK - 1) / BLOCK;
 }
 
-// The row behind the last one of the block that starts at the given row.
+// The row after the last one of the block that starts at the given row.
 static size_t block_end(size_t rows, size_t start)
 {
     return rows - start < BLOCK ? rows : start + BLOCK;

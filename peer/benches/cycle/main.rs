@@ -222,7 +222,7 @@ fn begin_line(title: &str, shape: Shape, calls: usize) {
     print!(" {calls:5} |");
 }
 
-/// A number for each build, with so many places behind the point.
+/// A number for each build, with so many places after the point.
 fn print_numbers(places: usize, numbers: Numbers) {
     for number in numbers {
         print!(" {}", cell(9, places, number));

@@ -13,7 +13,7 @@ pub fn heading(of: &str) {
     print_line("", of, ["proved", "Rust", "C"]);
 }
 
-/// One line, with so many places behind the point.
+/// One line, with so many places after the point.
 pub fn line(title: &str, of: &str, places: usize, numbers: Numbers) {
     let cells = numbers.map(|number| cell(9, places, number));
     print_line(title, of, cells);

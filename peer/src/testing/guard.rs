@@ -1,10 +1,10 @@
-//! A buffer with bytes before and behind the part that is lent.
+//! A buffer with bytes before and after the part that is lent.
 
 use std::ops::{Deref, DerefMut};
 
 use crate::testing::random::Random;
 
-/// The least number of bytes before and behind the longest part.
+/// The least number of bytes before and after the longest part.
 const GUARD: usize = 24;
 
 /// The bytes of a buffer, with those around the part that is lent. It reads as

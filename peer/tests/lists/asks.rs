@@ -133,7 +133,7 @@ fn rows_with_a_cell_changed_are_refused_the_same() {
     }
 }
 
-/// A list with an ask, and behind it a row is written with the levels asked for.
+/// A list with an ask, and after it a row is written with the levels asked for.
 /// Gives what it leaves.
 fn left_by(
     seed: u64,

@@ -91,7 +91,7 @@ fn the_example_of_coarse_cycles() {
     assert_eq!(list.make(start), Answer::Refused(15));
 }
 
-/// A start and a whole cycle with too many digits to skip: 15 stands behind 5
+/// A start and a whole cycle with too many digits to skip: 15 stands after 5
 /// and before 6, and an open cycle goes on.
 #[test]
 fn too_many_skipped_digits_are_refused_by_both() {

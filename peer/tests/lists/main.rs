@@ -1,6 +1,6 @@
 //! Random lists of calls through the proved library and through this build.
 //! After each call the answer, the record and every lent byte are compared,
-//! and with them the bytes before and behind each lent part.
+//! and with them the bytes before and after each lent part.
 //!
 //! The library is ../target/staticlib/libffi.a, made by rt staticlib ffi.
 

@@ -1,143 +1,172 @@
--- `array_questions::check_commit` meets its contract: what `check_finished` and `check_row` ask, then 8, then 17. Assumes nothing.
+-- `array_questions::check_commit` meets its contract: 6 on the cells and the finished row, 7, 8, and then 17, where the row is of n levels.
+-- Assumes nothing.
 use mathlib.Core.Path.{_≡_, refl, sym, ap, _∙_}
+use mathlib.Core.Bool.{true}
 use mathlib.Core.List.{List, [], _∷_, _++_}
-use lib.Dec.{eqb, ltb, lit<}
+use lib.Dec.{ltb, lit<}
 use lib.ListN.{length}
 use borrow.Author.Needs.{needs}
-use borrow.Author.Tests.{not-true, not-false, eqb-true, eq-eqb}
 use Rattle.parity.specs.Lists.{every}
 use Rattle.parity.specs.Shape.{levels, columns}
-use Rattle.parity.specs.Questions.{Question, firstNo, placeQuestion, levelsQuestion, soundQuestion}
+use Rattle.parity.specs.Questions.{Question, question, placeQuestion, levelsQuestion, soundQuestion, lengthsQuestion, firstNo}
+use Rattle.parity.specs.Questions as questions
 use Rattle.parity.proofs.Taken.{first-yes}
-use Rattle.shape.specs.Shapes.{checkedSays, sizesIf}
-use Rattle.shape.proofs.Refusals.{told, Passes, passes, then-refused, then-number, then-sizes, levels-tested}
-use Rattle.array_questions.specs.Questions.{cellsQuestions, finishedLength, rowArguments, commitArguments}
-use Rattle.array_questions.proofs.Asked.{CellsTaken, cells-parts, cells-then}
+use Rattle.shape.specs.Shapes.{checkedSays, sizesIf, Passed}
+use Rattle.shape.specs.declared.sizes.Checked.the-variants.{Taken}
+use Rattle.shape.proofs.Refusals.{told, passes, fails, says-number, first-found, length-lent, ask}
+use Rattle.array_questions.specs.Questions.{cellsQuestions}
+use Rattle.array_questions.proofs.Asked.{cells-parts, row-reads}
+use Rattle.array_questions.proofs.Asking.{lengths-asked}
 use Rattle.array_questions.proofs.check_commit.Statement.{statement}
 use Rattle.array_questions.proofs.check_commit.Tie as tie
 
--- what was asked before, and what is asked here
+-- the places of the questions and of the call, each from one that follows
+abbrev six : tie.After-check2 → tie.After-check
+six c = c .before .before
+
+abbrev sized : tie.After-check → tie.After-sizes
+sized c = c .before .before .before .before
+
+abbrev entry : tie.After-check-shape → tie.Start
+entry c = c .before .before
+
+abbrev begun : tie.After-check-levels → tie.Start
+begun c = entry (sized (six (c .before)) .before)
+
+abbrev leveled : tie.After-known-told2 → tie.After-check-levels
+leveled c = c .before .before .before
+
+-- what is asked up to 8
+abbrev own : tie.Start → List Question
+own c =
+    let s = c .args .shape in
+    let finished = c .args .finished .now in
+    lengthsQuestion (length finished ∷ []) (columns s ∷ []) ∷ placeQuestion (c .args .row) (s .rows) ∷ levelsQuestion (levels s) finished ∷ []
+
 abbrev first : tie.Start → List Question
-first c =
-    cellsQuestions (c .args .shape) (c .args .cells)
-    (finishedLength (c .args .shape) (length (c .args .finished .now)) ∷ placeQuestion (c .args .row) (c .args .shape .rows) ∷ [])
+first c = cellsQuestions (c .args .shape) (c .args .cells) (own c)
 
-abbrev more : tie.Start → List Question
-more c = levelsQuestion (c .args .shape) (c .args .finished .now) ∷ soundQuestion (c .args .shape) (c .args .finished .now) ∷ []
+-- .. and then 17
+abbrev sound : tie.Start → Question
+sound c = soundQuestion (c .args .shape) (c .args .finished .now)
 
--- no k bytes come with a commit, and k for their number passes
-abbrev asked : tie.Start → List Question
-asked c =
-    cellsQuestions (c .args .shape) (c .args .cells)
-    (finishedLength (c .args .shape) (length (c .args .finished .now)) ∷ rowArguments (c .args .shape) (c .args .shape .width) (c .args .row))
-
-no-part : (c : tie.Start) → firstNo (asked c) ≡ firstNo (first c)
-no-part c = rw (eq-eqb (c .args .shape .width) (c .args .shape .width) refl) refl
-
--- the places of the call and of the answer to the row, each from one that follows
-abbrev begun : tie.After-check-row → tie.Start
-begun c = c .before .before .before
-
-abbrev rowed : tie.After-sizes → tie.After-check-row
-rowed c = c .before .before
-
-answered : (c : tie.After-check-row) → checkedSays (c .check-row .result) ≡ sizesIf (firstNo (first (begun c))) (begun c .args .shape)
+answered : (c : tie.After-check-levels) → checkedSays (c .check-levels .result) ≡ sizesIf (firstNo (first (begun c))) (begun c .args .shape)
 answered c =
-    let start = begun c in
-    let s = start .args .shape in
-    cells-then s (start .args .cells) (finishedLength s (length (start .args .finished .now)) ∷ []) (rowArguments s (s .width) (start .args .row)) refl
-    (c .before .check-finished .result) (c .check-row .result) (c .before .check-finished .ensures) (c .check-row .ensures)
-    ∙ ap (λ n. sizesIf n s) (no-part start)
+    let row = c .before in
+    let lengths = six row in
+    let sizes = sized lengths in
+    let shape = sizes .before in
+    let args = entry shape .args in
+    let s = args .shape in
+    let finished = args .finished .now in
+    let own = lengthsQuestion (length finished ∷ []) (columns s ∷ []) in
+    let seven = placeQuestion (args .row) (s .rows) in
+    ask (cellsQuestions s (args .cells) (own ∷ seven ∷ [])) s (row .check2 .result) (c .check-levels .result) _ (levelsQuestion (levels s) finished) refl
+    (ask (cellsQuestions s (args .cells) (own ∷ [])) s (lengths .check .result) (row .check2 .result) seven seven refl
+    (lengths-asked s (args .cells) (shape .check-shape .result) (lengths .check .result) (sizes .sizes .result) _ (shape .check-shape .ensures)
+    (sizes .sizes .ensures) (lengths .check .ensures) (length finished ∷ []) (λ z. z .columns ∷ []) (lengths .before .same-lengths .ensures))
+    (row .check2 .ensures) (λ p. refl))
+    (c .check-levels .ensures) (λ p. ap (λ z. levelsQuestion (z .levels) finished) (p .sizes))
 
-module _ (c : tie.After-sizes) where
-  passed : Passes (first (begun (rowed c))) (begun (rowed c) .args .shape) (c .sizes .given .0 .0)
-  passed = passes _ _ _ (told (answered (rowed c)) (c .sizes .given .1))
+-- where 17 is asked, the row has n levels, all below q
+module _ (c : tie.After-known-told2) where
+  asked : Passed (first (begun (leveled c))) (begun (leveled c) .args .shape) (c .before .leveled2 .given .0 .0)
+  asked = passes _ _ _ (told (answered (leveled c)) (c .before .leveled2 .given .1))
 
-  parts : let args = begun (rowed c) .args in CellsTaken (args .shape) (args .cells) × (length (args .finished .now) ≡ columns (args .shape))
-  parts =
-      let args = begun (rowed c) .args in
-      let s = args .shape in
-      let own = finishedLength s (length (args .finished .now)) ∷ placeQuestion (args .row) (s .rows) ∷ [] in
-      let both = cells-parts s (args .cells) own (passed .none) in
-      (both .0, eqb-true _ _ (first-yes (eqb (length (args .finished .now)) (columns s)) _ 6 (lit< tt) (both .1) .0))
+  taken : questions.Taken (begun (leveled c) .args .shape)
+  taken = let start = begun (leveled c) in cells-parts (start .args .shape) (start .args .cells) (own start) (asked .none) .0 .taken
 
--- the test of the levels is that of question 8
-tested : (c : tie.After-all-below) → let start = begun (rowed (c .before .before)) in
-    every (λ v. ltb v (levels (start .args .shape))) (start .args .finished .now) ≡ c .all-below .result
-tested c =
-    let sizes = c .before .before in
-    let start = begun (rowed sizes) in
-    levels-tested (start .args .shape) (ap (λ z. z .levels) (passed sizes .sizes)) (start .args .finished .now) (c .all-below .ensures)
+  levels-given :
+      let args = begun (leveled c) .args in
+      (length (args .finished .now) ≡ columns (args .shape)) × (every (λ v. ltb v (levels (args .shape))) (args .finished .now) ≡ true)
+  levels-given =
+      let start = begun (leveled c) in
+      let s = start .args .shape in
+      let finished = start .args .finished .now in
+      let none = cells-parts s (start .args .cells) (own start) (asked .none) .1 in
+      let six = first-yes (lengthsQuestion (length finished ∷ []) (columns s ∷ []) .holds) _ 6 (lit< tt) none in
+      let seven = row-reads s (start .args .row) (levelsQuestion (levels s) finished ∷ []) (six .1) in
+      (length-lent (length finished ∷ []) (columns s ∷ []) (six .0) 0, first-yes _ 0 8 (lit< tt) (seven .1) .0)
 
-check-finished-requires : tie.Need-check-finished-requires
-check-finished-requires c κs = search needs
+check-shape-requires : tie.Need-check-shape-requires
+check-shape-requires c κs = search needs
 
-check-row-requires : tie.Need-check-row-requires
-check-row-requires c κs = search needs
+sizes-requires : tie.Need-sizes-requires
+sizes-requires c κs = search needs
 
-enum-known-number : tie.Need-enum-known-number
-enum-known-number c = search needs
+slice-aggregate-same-lengths : tie.Need-slice-aggregate-same-lengths
+slice-aggregate-same-lengths c = search needs
 
-enum-known-sizes : tie.Need-enum-known-sizes
-enum-known-sizes c = search needs
+slice-aggregate-same-lengths-2 : tie.Need-slice-aggregate-same-lengths-2
+slice-aggregate-same-lengths-2 c = search needs
 
-all-below-requires : tie.Need-all-below-requires
-all-below-requires c κs = search needs
+same-lengths-requires : tie.Need-same-lengths-requires
+same-lengths-requires c κs = search needs
 
-returns : tie.Need-returns
-returns c =
-    let sizes = c .before .before .before in
-    let start = begun (rowed sizes) in
-    then-number (first start) (more start) (start .args .shape) refl (passed sizes .none) 7 (rw (tested (c .before) ∙ not-true _ (c .if1 .taken)) refl)
+check-requires : tie.Need-check-requires
+check-requires c κs = search needs
+
+check-requires-2 : tie.Need-check-requires-2
+check-requires-2 c κs = search needs
+
+check-levels-requires : tie.Need-check-levels-requires
+check-levels-requires c κs = search needs
+
+enum-known-leveled : tie.Need-enum-known-leveled
+enum-known-leveled c = search needs
+
+enum-known-leveled-2 : tie.Need-enum-known-leveled-2
+enum-known-leveled-2 c = search needs
 
 matrix-of-requires : tie.Need-matrix-of-requires
-matrix-of-requires c κs = let sizes = c .before .before .before in (parts sizes .0 .taken, ap (λ z. z .checks) (passed sizes .sizes))
+matrix-of-requires c κs = record { taken = taken c; checks = ap (λ z. z .checks) (asked c .sizes) }
 
 is-balanced-requires : tie.Need-is-balanced-requires
 is-balanced-requires c κs =
-    let low = c .before .before in
-    let sizes = low .before .before .before in (
-      (parts sizes .0 .taken, ap (λ z. z .checks) (passed sizes .sizes), tested (low .before) ∙ not-false _ (low .if1 .left)),
-      (parts sizes .1, c .before .matrix-of .ensures),
+    let told = c .before .before in
+    let given = levels-given told in (
+      record { taken = taken told; checks = ap (λ z. z .checks) (asked told .sizes); cells = given .0; matrix = c .before .matrix-of .ensures },
+      given .1,
     )
 
+check-requires-3 : tie.Need-check-requires-3
+check-requires-3 c κs = search needs
+
+-- refused up to 8
+returns : tie.Need-returns
+returns c =
+    let answer = c .before .before .before in
+    let start = begun answer in
+    let number = c .before .leveled .given in
+    let more = sound start ∷ [] in
+    let no = fails (first start) (start .args .shape) (number .0 .0) (told (answered answer) (number .1)) in
+    says-number (first start ++ more) (start .args .shape) (number .0 .0) (first-found (first start) more (number .0 .0) (no .1) (no .0), no .1)
+
+-- 17 asked too
 returns-2 : tie.Need-returns-2
 returns-2 c =
-    let low = c .before .before .before .before in
-    let sizes = low .before .before .before in
-    let start = begun (rowed sizes) in
-    let unsound = sym (c .before .is-balanced .ensures) ∙ not-true _ (c .if2 .taken) in
-    then-number (first start) (more start) (start .args .shape) refl (passed sizes .none) 16
-    (rw (tested (low .before) ∙ not-false _ (low .if1 .left), unsound) refl)
-
-returns-3 : tie.Need-returns-3
-returns-3 c =
-    let asked = c .before .before .before in
-    let start = begun asked in
-    let number = c .before .number .given in
-    then-refused (first start) (more start) (start .args .shape) (number .0 .0) (told (answered asked) (number .1))
-
-returns-4 : tie.Need-returns-4
-returns-4 c =
-    let low = c .before .before .before .before in
-    let sizes = low .before .before .before in
-    let start = begun (rowed sizes) in
-    let sound = sym (c .before .is-balanced .ensures) ∙ not-false _ (c .if2 .left) in
-    then-sizes (first start) (more start) (start .args .shape) refl (passed sizes)
-    (rw (tested (low .before) ∙ not-false _ (low .if1 .left), sound) refl)
+    let known = c .before .before .before .before in
+    let start = begun (leveled known) in
+    let sizes = known .before .leveled2 .given in
+    ask (first start) (start .args .shape) (Taken (sizes .0 .0)) (c .check3 .result) (question 17 _) (sound start) refl
+    (told (answered (leveled known)) (sizes .1)) (c .check3 .ensures) (λ p. ap (question 17) (c .before .is-balanced .ensures))
 
 pub check-commit-spec : {M : Type 1} → statement M
 check-commit-spec =
     tie.close
     (tie.spec
-    check-finished-requires
-    check-row-requires
-    enum-known-number
-    enum-known-sizes
-    all-below-requires
-    returns
+    check-shape-requires
+    sizes-requires
+    slice-aggregate-same-lengths
+    slice-aggregate-same-lengths-2
+    same-lengths-requires
+    check-requires
+    check-requires-2
+    check-levels-requires
+    enum-known-leveled
+    enum-known-leveled-2
     matrix-of-requires
     is-balanced-requires
-    returns-2
-    returns-3
-    returns-4)
+    check-requires-3
+    returns
+    returns-2)

@@ -1,101 +1,97 @@
--- `array_questions::check_drift` meets its contract: what `check_cells` asks, then 7 on row and column, then 8. Assumes nothing.
-use mathlib.Core.Path.{refl, ap}
-use mathlib.Core.List.{[]}
-use native.Mathlib.Omega.{arith}
+-- `array_questions::check_drift` meets its contract: 6 on the cells, 7 on the row and on the column, then 8. Assumes nothing.
+use mathlib.Core.Path.{_≡_, refl, sym, ap, ap₂, _∙_}
+use mathlib.Core.Bool.{and-true}
+use mathlib.Core.List.{List, [], _∷_}
+use lib.Dec.{ltb}
 use borrow.Author.Needs.{needs}
-use borrow.Author.Tests.{lt-ltb, le-ltb}
 use Rattle.parity.specs.Shape.{levels, columns}
-use Rattle.shape.proofs.Refusals.{told, Passes, passes, then-refused, then-number, then-sizes}
-use Rattle.array_questions.specs.Questions.{cellsQuestions, driftArguments}
+use Rattle.parity.specs.Questions.{Question, question, placeQuestion, levelsQuestion, lengthsQuestion, firstNo}
+use Rattle.shape.specs.Shapes.{sizesOf}
+use Rattle.shape.proofs.Refusals.{sizes-known, ask}
+use Rattle.array_memory.specs.Lengths.{cellsWanted}
+use Rattle.array_questions.specs.Questions.{cellsQuestions}
+use Rattle.array_questions.proofs.Asking.{cells-asked}
 use Rattle.array_questions.proofs.check_drift.Statement.{statement}
 use Rattle.array_questions.proofs.check_drift.Tie as tie
 
--- the places of the call and of the sizes, each from one that follows
-abbrev begun : tie.After-sizes → tie.Start
-begun c = c .before .before .before
+-- the places of the questions, each from one that follows
+abbrev sevens : tie.After-check4 → tie.After-check3
+sevens c = c .before .before .before
 
-abbrev sized : tie.After-wide → tie.After-sizes
-sized c = c .before .before .before .before
+abbrev rowed : tie.After-check3 → tie.After-check2
+rowed c = c .before .before
 
-cells-taken : (c : tie.After-sizes) → let args = begun c .args in Passes (cellsQuestions (args .shape) (args .cells) []) (args .shape) (c .sizes .given .0 .0)
-cells-taken c = passes _ _ _ (told (c .before .before .check-cells .ensures) (c .sizes .given .1))
+abbrev six : tie.After-check2 → tie.After-check
+six c = c .before .before
 
-check-cells-requires : tie.Need-check-cells-requires
-check-cells-requires c κs = search needs
+abbrev sized : tie.After-check → tie.After-sizes
+sized c = c .before .before
 
-enum-known-number : tie.Need-enum-known-number
-enum-known-number c = search needs
+-- the sizes in hand are the shape's, where no question fails
+known :
+    (c : tie.After-sizes) (more : List Question) → let s = c .before .before .args .shape in
+    firstNo (cellsQuestions s (c .before .before .args .cells) more) ≡ 0 → c .sizes .result ≡ sizesOf s
+known c more =
+    let shape = c .before in
+    let args = shape .before .args in
+    sizes-known (args .shape) (shape .check-shape .result) (c .sizes .result) (lengthsQuestion (args .cells ∷ []) (cellsWanted (args .shape)) ∷ more)
+    (shape .check-shape .ensures) (c .sizes .ensures)
 
-enum-known-sizes : tie.Need-enum-known-sizes
-enum-known-sizes c = search needs
+check-shape-requires : tie.Need-check-shape-requires
+check-shape-requires c κs = search needs
 
-returns : tie.Need-returns
-returns c =
-    let sizes = c .before .before in
-    let args = begun sizes .args in
-    let s = args .shape in
-    then-number (cellsQuestions s (args .cells) []) (driftArguments s (args .row) (args .column) (args .level)) s refl (cells-taken sizes .none) 6
-    (rw (le-ltb (args .row) (s .rows) (c .if1 .taken)) refl)
+sizes-requires : tie.Need-sizes-requires
+sizes-requires c κs = search needs
 
-returns-2 : tie.Need-returns-2
-returns-2 c =
-    let sizes = c .before .before .before in
-    let args = begun sizes .args in
-    let s = args .shape in
-    let p = cells-taken sizes in
-    then-number (cellsQuestions s (args .cells) []) (driftArguments s (args .row) (args .column) (args .level)) s refl (p .none) 6
-    (rw (
-      lt-ltb (args .row) (s .rows) (c .before .if1 .left),
-      le-ltb (args .column) (columns s) (omega (arith, c .if2 .taken, ap (λ z. z .columns) (p .sizes))),
-    ) refl)
+check-requires : tie.Need-check-requires
+check-requires c κs = search needs
+
+check-requires-2 : tie.Need-check-requires-2
+check-requires-2 c κs = search needs
+
+check-requires-3 : tie.Need-check-requires-3
+check-requires-3 c κs = search needs
 
 wide-requires : tie.Need-wide-requires
 wide-requires c κs = search needs
 
-returns-3 : tie.Need-returns-3
-returns-3 c =
-    let sizes = sized (c .before) in
-    let args = begun sizes .args in
-    let s = args .shape in
-    let p = cells-taken sizes in
-    then-number (cellsQuestions s (args .cells) []) (driftArguments s (args .row) (args .column) (args .level)) s refl (p .none) 7
-    (rw (
-      lt-ltb (args .row) (s .rows) (c .before .before .before .if1 .left),
-      lt-ltb (args .column) (columns s) (omega (arith, c .before .before .if2 .left, ap (λ z. z .columns) (p .sizes))),
-      le-ltb (args .level) (levels s) (omega (arith, c .before .wide .ensures, ap (λ z. z .levels) (p .sizes))),
-    ) refl)
+check-requires-4 : tie.Need-check-requires-4
+check-requires-4 c κs = search needs
 
-returns-4 : tie.Need-returns-4
-returns-4 c =
-    let args = c .before .before .before .before .args in
+-- all asked
+returns : tie.Need-returns
+returns c =
+    let column = sevens c in
+    let row = rowed column in
+    let cells = six row in
+    let sizes = sized cells in
+    let shape = sizes .before in
+    let args = shape .before .args in
     let s = args .shape in
-    let number = c .before .number .given in
-    then-refused (cellsQuestions s (args .cells) []) (driftArguments s (args .row) (args .column) (args .level)) s (number .0 .0)
-    (told (c .before .before .before .check-cells .ensures) (number .1))
-
-returns-5 : tie.Need-returns-5
-returns-5 c =
-    let sizes = sized (c .before) in
-    let args = begun sizes .args in
-    let s = args .shape in
-    let p = cells-taken sizes in
-    then-sizes (cellsQuestions s (args .cells) []) (driftArguments s (args .row) (args .column) (args .level)) s refl p
-    (rw (
-      lt-ltb (args .row) (s .rows) (c .before .before .before .if1 .left),
-      lt-ltb (args .column) (columns s) (omega (arith, c .before .before .if2 .left, ap (λ z. z .columns) (p .sizes))),
-      lt-ltb (args .level) (levels s) (omega (arith, c .before .wide .ensures, ap (λ z. z .levels) (p .sizes))),
-    ) refl)
+    let seven = placeQuestion (args .row) (s .rows) in
+    let again = placeQuestion (args .column) (columns s) in
+    ask (cellsQuestions s (args .cells) (seven ∷ again ∷ [])) s (column .check3 .result) (c .check4 .result)
+    (question 8 _) (levelsQuestion (levels s) (args .level ∷ [])) refl
+    (ask (cellsQuestions s (args .cells) (seven ∷ [])) s (row .check2 .result) (column .check3 .result) (question 7 _) again refl
+    (ask (cellsQuestions s (args .cells) []) s (cells .check .result) (row .check2 .result) seven seven refl
+    (cells-asked s (args .cells) (shape .check-shape .result) (cells .check .result) (sizes .sizes .result) _ (shape .check-shape .ensures)
+    (sizes .sizes .ensures) (cells .check .ensures) refl)
+    (row .check2 .ensures) (λ p. refl))
+    (column .check3 .ensures) (λ p. ap (λ z. question 7 (ltb (args .column) (z .columns))) (known sizes (seven ∷ []) (p .none))))
+    (c .check4 .ensures)
+    (λ p.
+    ap₂ (λ level z. question 8 (ltb level (z .levels))) (c .before .before .wide .ensures) (known sizes (seven ∷ again ∷ []) (p .none))
+    ∙ ap (question 8) (sym (and-true (ltb (args .level) (levels s)))))
 
 pub check-drift-spec : {M : Type 1} → statement M
 check-drift-spec =
     tie.close
     (tie.spec
-    check-cells-requires
-    enum-known-number
-    enum-known-sizes
-    returns
-    returns-2
+    check-shape-requires
+    sizes-requires
+    check-requires
+    check-requires-2
+    check-requires-3
     wide-requires
-    returns-3
-    returns-4
-    returns-5)
+    check-requires-4
+    returns)

@@ -1,85 +1,79 @@
--- `array_questions::check_program` meets its contract: what `check_row` asks, then 8. Assumes nothing.
-use mathlib.Core.Path.{_≡_, refl, ap, subst, _∙_}
-use mathlib.Core.List.{List, [], _∷_, _++_}
+-- `array_questions::check_program` meets its contract: 6 on the cells and the levels, 7, then 8. Assumes nothing.
+use mathlib.Core.Path.{refl, ap}
+use mathlib.Core.List.{[], _∷_}
 use lib.ListN.{length}
 use borrow.Author.Needs.{needs}
-use borrow.Author.Tests.{not-true, not-false}
 use Rattle.parity.specs.Shape.{levels}
-use Rattle.parity.specs.Questions.{Question, levelsQuestion}
-use Rattle.shape.specs.Shapes.{thenSays, TellsOf}
-use Rattle.shape.proofs.Refusals.{behind-refusal, behind-number, behind-sizes, behind-both, behind-tells, levels-tested}
-use Rattle.array_questions.specs.Questions.{rowArguments}
+use Rattle.parity.specs.Questions.{placeQuestion, levelsQuestion, lengthsQuestion}
+use Rattle.shape.proofs.Refusals.{ask}
+use Rattle.array_questions.specs.Questions.{cellsQuestions}
+use Rattle.array_questions.proofs.Asking.{lengths-asked}
 use Rattle.array_questions.proofs.check_program.Statement.{statement}
 use Rattle.array_questions.proofs.check_program.Tie as tie
 
--- what is asked before, and what is asked here
-abbrev first : tie.Start → List Question
-first c = rowArguments (c .args .shape) (length (c .args .given .now)) (c .args .row)
+-- the places of the questions and of the call, each from one that follows
+abbrev six : tie.After-check2 → tie.After-check
+six c = c .before .before
 
-abbrev more : tie.Start → List Question
-more c = levelsQuestion (c .args .shape) (c .args .given .now) ∷ []
+abbrev sized : tie.After-check → tie.After-sizes
+sized c = c .before .before .before .before
 
--- the call's arguments, from the answer to the row
-abbrev begun : tie.After-check-row → tie.Start
+abbrev begun : tie.After-check-shape → tie.Start
 begun c = c .before .before
 
--- the one behind the other
-behind :
-    (c : tie.After-check-row)
-    → thenSays (c .check-row .result) (more (begun c)) ≡ thenSays (begun c .args .asked) (first (begun c) ++ more (begun c))
-behind c = behind-both (begun c .args .asked) (c .check-row .result) (first (begun c)) (more (begun c)) refl (c .check-row .ensures)
+check-shape-requires : tie.Need-check-shape-requires
+check-shape-requires c κs = search needs
 
--- the levels that the code asks for are q
-known : (c : tie.After-sizes) → c .sizes .given .0 .0 .levels ≡ levels (begun (c .before .before) .args .shape)
-known c =
-    let row = c .before .before in
-    let start = begun row in
-    let s = start .args .shape in
-    let tells = behind-tells s (start .args .asked) (row .check-row .result) (first start) (row .check-row .ensures) (start .pre) in
-    ap (λ z. z .levels) (subst (TellsOf s) (c .sizes .given .1) tells .1)
+sizes-requires : tie.Need-sizes-requires
+sizes-requires c κs = search needs
 
-check-row-requires : tie.Need-check-row-requires
-check-row-requires c κs = search needs
+slice-aggregate-same-lengths : tie.Need-slice-aggregate-same-lengths
+slice-aggregate-same-lengths c = search needs
 
-enum-known-number : tie.Need-enum-known-number
-enum-known-number c = search needs
+slice-aggregate-same-lengths-2 : tie.Need-slice-aggregate-same-lengths-2
+slice-aggregate-same-lengths-2 c = search needs
 
-enum-known-sizes : tie.Need-enum-known-sizes
-enum-known-sizes c = search needs
+same-lengths-requires : tie.Need-same-lengths-requires
+same-lengths-requires c κs = search needs
 
-all-below-requires : tie.Need-all-below-requires
-all-below-requires c κs = search needs
+check-requires : tie.Need-check-requires
+check-requires c κs = search needs
 
+check-requires-2 : tie.Need-check-requires-2
+check-requires-2 c κs = search needs
+
+check-levels-requires : tie.Need-check-levels-requires
+check-levels-requires c κs = search needs
+
+-- all asked
 returns : tie.Need-returns
 returns c =
-    let sizes = c .before .before .before in
-    let start = begun (sizes .before .before) in
-    let test = levels-tested (start .args .shape) (known sizes) (start .args .given .now) (c .before .all-below .ensures) in
-    behind-number (sizes .sizes .given .1) (more start) 7 (rw (test ∙ not-true _ (c .if1 .taken)) refl)
-    ∙ behind (sizes .before .before)
-
-returns-2 : tie.Need-returns-2
-returns-2 c =
-    let asked = c .before .before .before in
-    behind-refusal (c .before .number .given .1) (more (begun asked))
-    ∙ behind asked
-
-returns-3 : tie.Need-returns-3
-returns-3 c =
-    let sizes = c .before .before .before in
-    let start = begun (sizes .before .before) in
-    let test = levels-tested (start .args .shape) (known sizes) (start .args .given .now) (c .before .all-below .ensures) in
-    behind-sizes (sizes .sizes .given .1) (more start) (rw (test ∙ not-false _ (c .if1 .left)) refl)
-    ∙ behind (sizes .before .before)
+    let row = c .before in
+    let lengths = six row in
+    let sizes = sized lengths in
+    let shape = sizes .before in
+    let args = begun shape .args in
+    let s = args .shape in
+    let given = args .given .now in
+    let own = lengthsQuestion (length given ∷ []) (s .width ∷ []) in
+    let seven = placeQuestion (args .row) (s .rows) in
+    ask (cellsQuestions s (args .cells) (own ∷ seven ∷ [])) s (row .check2 .result) (c .check-levels .result) _ (levelsQuestion (levels s) given) refl
+    (ask (cellsQuestions s (args .cells) (own ∷ [])) s (lengths .check .result) (row .check2 .result) seven seven refl
+    (lengths-asked s (args .cells) (shape .check-shape .result) (lengths .check .result) (sizes .sizes .result) _ (shape .check-shape .ensures)
+    (sizes .sizes .ensures) (lengths .check .ensures) (length given ∷ []) (λ z. s .width ∷ []) (lengths .before .same-lengths .ensures))
+    (row .check2 .ensures) (λ p. refl))
+    (c .check-levels .ensures) (λ p. ap (λ z. levelsQuestion (z .levels) given) (p .sizes))
 
 pub check-program-spec : {M : Type 1} → statement M
 check-program-spec =
     tie.close
     (tie.spec
-    check-row-requires
-    enum-known-number
-    enum-known-sizes
-    all-below-requires
-    returns
-    returns-2
-    returns-3)
+    check-shape-requires
+    sizes-requires
+    slice-aggregate-same-lengths
+    slice-aggregate-same-lengths-2
+    same-lengths-requires
+    check-requires
+    check-requires-2
+    check-levels-requires
+    returns)

@@ -1,29 +1,31 @@
--- `cycle_run::run_cycle` meets its contract: `check_skip` and `check_matches` ask, `start` starts the cycle, and `run_open` makes its steps. Assumes nothing.
+-- `cycle_run::run_cycle` meets its contract: 15 and then 6 are asked, `start_lent` starts the cycle, and `run_open` makes its steps. Assumes nothing.
 use mathlib.Core.Path.{_≡_, refl, sym, _∙_, ap, ap₂, subst}
-use mathlib.Core.List.{List, _++_}
+use mathlib.Core.List.{List, [], _∷_, _++_}
 use Prim.Native.Nat.{_<_}
 use lib.Dec.{lit<}
 use lib.ListN.{length, replicate}
 use borrow.Author.Needs.{needs}
-use borrow.Author.Tests.{eqb-true}
 use Rattle.parity.specs.Matrix.{cycleSteps}
-use Rattle.parity.specs.Questions.{Question, firstNo, shapeQuestions, Taken}
+use Rattle.parity.specs.Questions.{Question, firstNo, shapeQuestions, skipQuestion, lengthsQuestion}
 use Rattle.parity.proofs.Taken.{first-yes}
 use Rattle.shape.specs.Answers.{accepted, giving}
-use Rattle.shape.specs.Shapes.{checkedSays, sizesIf}
-use Rattle.shape.proofs.Refusals.{told, fails, passes, answer-tells, answer-then}
+use Rattle.shape.specs.Shapes.{checkedSays, sizesIf, sizesIn, Passed}
+use Rattle.shape.proofs.Refusals.{door-passed, door-refused, shape-asked, sizes-told, ask, length-lent, CallPassed, call-passed}
+use Rattle.shape.proofs.Asking.{both-asked}
 use Rattle.shape.proofs.Calling.{call-done}
-use Rattle.array_memory.specs.Memory.{Memory, withArray, withAll, noMemory, Sized}
-use Rattle.array_memory.proofs.Asked.{skip-taken, MemoryTaken, memory-taken}
+use Rattle.array_memory.specs.Blocks.{blocks}
+use Rattle.array_memory.specs.Lengths.{allWanted, allLengths, Sized}
+use Rattle.array_memory.specs.Memory.{Memory, withArray, withAll, noMemory}
+use Rattle.array_memory.proofs.Asked.{all-sized}
 use Rattle.cycle_lookup.specs.Lookup.{entryMatches}
 use Rattle.cycle.specs.Record.{cycleAt}
-use Rattle.cycle.specs.Calls.{State, stateOf, startArguments, stepArguments, lentQuestions, started}
-use Rattle.cycle.specs.Run.{start, step, after, runFrom}
+use Rattle.cycle.specs.Calls.{State, stateOf, startArguments, stepArguments, started, startCall}
 use Rattle.cycle.specs.Methods.{changing}
+use Rattle.cycle.proofs.Asked.{skip-below, start-asked}
 use Rattle.cycle.proofs.CycleRecord.{record-skip}
 use Rattle.cycle.proofs.Steps.{started-sized, start-done}
 use Rattle.cycle.proofs.Given.{gives-refusal}
-use Rattle.cycle_run.specs.Cycles.{cycleQuestions, lastMatches, cycleCall}
+use Rattle.cycle_run.specs.Cycles.{afterSteps, cycleQuestions, lastMatches, cycleCall}
 use Rattle.cycle_run.proofs.run_cycle.Statement.{statement}
 use Rattle.cycle_run.proofs.run_cycle.Tie as tie
 
@@ -34,90 +36,115 @@ lent c mem = withAll (c .args .cells .now) (c .args .lines .now) (c .args .count
 abbrev questions : tie.Start → List Question
 questions c = cycleQuestions (c .args .shape) (lent c noMemory) (c .args .skip) (c .args .matches .now)
 
--- the places of the call, of its start and of its steps, each from one that follows
-abbrev begun : tie.After-check-matches → tie.Start
-begun c = c .before .before .before .before .before .before .before .before
+-- the places of the call, of the questions, of the start and of the steps, each from one that follows
+abbrev known : tie.After-slice-known2 → tie.Start
+known c = c .before .before .before .before
 
-abbrev passed : tie.After-start → tie.After-enum-told
+abbrev shaped : tie.After-check → tie.After-check-shape
+shaped c = c .before .before
+
+abbrev begun : tie.After-check-lent → tie.Start
+begun c = known (shaped (c .before) .before .before .before)
+
+abbrev passed : tie.After-start-lent → tie.After-known-told2
 passed c = c .before .before .before .before
 
-abbrev opened : tie.After-run-open-arg4 → tie.After-start
-opened c = c .before .before .before .before .before .before .before .before .before .before
+abbrev totalled : tie.After-slice-known7 → tie.After-slice-known5
+totalled c = c .before .before .before .before
 
-abbrev ran : tie.After-done → tie.After-run-open
-ran c = c .before .before .before .before .before .before .before .before .before
+abbrev lending : tie.After-run-open-arg4 → tie.After-slice-known7
+lending c = c .before .before .before .before
+
+abbrev opened : tie.After-run-open-arg4 → tie.After-start-lent
+opened c = totalled (lending c) .before .before
+
+abbrev matched : tie.After-slice-known11 → tie.After-slice-known9
+matched c = c .before .before .before .before
+
+abbrev ran : tie.After-slice-known11 → tie.After-run-open
+ran c = matched c .before .before .before .before
 
 -- what is answered to all the questions
-answered : (c : tie.After-check-matches) → checkedSays (c .check-matches .result) ≡ sizesIf (firstNo (questions (begun c))) (begun c .args .shape)
+answered : (c : tie.After-check-lent) → checkedSays (c .check-lent .result) ≡ sizesIf (firstNo (questions (begun c))) (begun c .args .shape)
 answered c =
     let start = begun c in
     let s = start .args .shape in
+    let m = s .rows in
     let skip = c .before in
-    c .check-matches .ensures
-    ∙ answer-then (shapeQuestions s ++ startArguments s (start .args .skip)) (lentQuestions s (lent start noMemory) (start .args .matches .now)) s
-    (skip .check-skip .result) refl (skip .check-skip .ensures)
+    let shape = shaped skip in
+    let fifteen = skipQuestion s (start .args .skip) in
+    let numbers = shapeQuestions s ++ startArguments s (start .args .skip) in
+    let asked = ask (shapeQuestions s) s (shape .check-shape .result) (skip .check .result) fifteen fifteen refl
+    (shape-asked s (shape .check-shape .result) (shape .check-shape .ensures)) (skip .check .ensures) (λ p. refl) in
+    both-asked s numbers refl (skip .check .result) (c .check-lent .result) (sizesIn (skip .check .result)) _ asked
+    (sizes-told numbers s (skip .check .result) asked) (c .check-lent .ensures) (allLengths (lent start noMemory))
+    (λ z. z .cells ∷ m ∷ m ∷ m ∷ blocks s ∷ []) (length (start .args .matches .now) ∷ []) (λ z. m ∷ []) refl refl
 
 -- what is known where the questions are passed
-module _ (c : tie.After-enum-told) where
+module _ (c : tie.After-known-told2) where
   abbrev entered : tie.Start
-  entered = begun (c .before .before)
+  entered = begun (c .before .before .before)
 
-  none : firstNo (questions entered) ≡ 0
-  none = passes (questions entered) (entered .args .shape) _ (told (answered (c .before .before)) (c .enum-told .given .1)) .none
+  asked : Passed (questions entered) (entered .args .shape) (c .before .sizes .given .0 .0)
+  asked =
+      let answer = c .before .before .before in
+      door-passed (questions entered) (entered .args .shape) (answer .check-lent .result) (answered answer) (c .before .sizes .given .1)
 
-  abbrev lengths : List Question
-  lengths = lentQuestions (entered .args .shape) (lent entered noMemory) (entered .args .matches .now)
-
-  -- the digits to skip
-  coarse : (entered .args .skip < entered .args .shape .digits) × (firstNo (shapeQuestions (entered .args .shape) ++ lengths) ≡ 0)
-  coarse = skip-taken (entered .args .shape) (entered .args .skip) lengths none
-
-  -- then the memory, then the match bytes
   parts :
-      MemoryTaken (entered .args .shape) (lent entered noMemory) × (firstNo (stepArguments (entered .args .shape) (entered .args .matches .now)) ≡ 0)
-  parts = memory-taken (entered .args .shape) (lent entered noMemory) (stepArguments (entered .args .shape) (entered .args .matches .now)) (coarse .1)
-
-  taken : Taken (entered .args .shape)
-  taken = parts .0 .taken
+      CallPassed (entered .args .shape) (startArguments (entered .args .shape) (entered .args .skip))
+      (lengthsQuestion (allLengths (lent entered noMemory)) (allWanted (entered .args .shape)))
+      (stepArguments (entered .args .shape) (length (entered .args .matches .now)))
+  parts =
+      let s = entered .args .shape in
+      call-passed s (startArguments s (entered .args .skip)) (lengthsQuestion (allLengths (lent entered noMemory)) (allWanted s))
+      (stepArguments s (length (entered .args .matches .now))) refl (lit< tt) (asked .none)
 
   sized : Sized (entered .args .shape) (lent entered noMemory)
-  sized = parts .0 .sized
+  sized = all-sized (entered .args .shape) (lent entered noMemory) (parts .lent)
+
+  partial : entered .args .skip < entered .args .shape .digits
+  partial = skip-below (entered .args .shape) (entered .args .skip) (parts .numbers)
 
   matches-sized : length (entered .args .matches .now) ≡ entered .args .shape .rows
-  matches-sized = eqb-true (length (entered .args .matches .now)) (entered .args .shape .rows) (first-yes _ 0 6 (lit< tt) (parts .1) .0)
+  matches-sized =
+      let six = first-yes _ 0 6 (lit< tt) (parts .arguments) in
+      length-lent (length (entered .args .matches .now) ∷ []) (entered .args .shape .rows ∷ []) (six .0) 0
 
 -- the state that the start leaves
-module _ (c : tie.After-start) where
-  abbrev first : Memory → State
-  first mem =
-      let last = c .start .last .1 .1 .1 in
-      let args = entered (passed c) .args in
-      stateOf (withAll (args .cells .now) (args .lines .now) (last .0) (last .1 .0) (last .1 .1 .0) mem) (c .start .result .cycle)
+module _ (c : tie.After-start-lent) where
+  abbrev entry : tie.Start
+  entry = entered (passed c)
 
   abbrev given : Memory → State
-  given mem = stateOf (lent (entered (passed c)) mem) (entered (passed c) .args .cycle)
+  given mem = stateOf (lent entry mem) (entry .args .cycle)
 
-  left : (mem : Memory) → after (entered (passed c) .args .shape) (given mem) (start (entered (passed c) .args .skip)) ≡ first mem
-  left mem = ap (λ r. r .state) (c .start .ensures (withArray (entered (passed c) .args .cells .now) (entered (passed c) .args .lines .now) mem))
+  abbrev first : Memory → State
+  first mem =
+      let last = c .start-lent .last .1 .1 .1 in
+      stateOf (withAll (entry .args .cells .now) (entry .args .lines .now) (last .0) (last .1 .0) (last .1 .1 .0) mem) (c .start-lent .result)
 
-  made : started (entered (passed c) .args .shape) (given noMemory) (entered (passed c) .args .skip) ≡ first noMemory
-  made = sym (start-done _ (given noMemory) (sized (passed c)) (taken (passed c)) _ (coarse (passed c) .0)) ∙ left noMemory
+  left : (mem : Memory) → startCall (entry .args .shape) (given mem) (entry .args .skip) .state ≡ first mem
+  left mem = ap (λ r. r .state) (c .start-lent .ensures (withArray (entry .args .cells .now) (entry .args .lines .now) mem) (entry .args .cycle))
+
+  made : started (entry .args .shape) (given noMemory) (entry .args .skip) ≡ first noMemory
+  made = sym (start-done _ (given noMemory) (sized (passed c)) (parts (passed c) .taken) _ (partial (passed c))) ∙ left noMemory
 
   -- its record is that of the first lookup, with the digits to skip in it
-  opened-cycle : cycleAt (entered (passed c) .args .skip) (entered (passed c) .args .shape) 0 ≡ c .start .result .cycle
+  opened-cycle : cycleAt (entry .args .skip) (entry .args .shape) 0 ≡ c .start-lent .result
   unfolding started
   opened-cycle = ap (λ st. st .cycle) made
 
-  kept : c .start .result .cycle .skip ≡ entered (passed c) .args .skip
-  kept = ap (λ r. r .skip) (sym opened-cycle) ∙ record-skip (entered (passed c) .args .skip) (entered (passed c) .args .shape) 0
+  kept : c .start-lent .result .skip ≡ entry .args .skip
+  kept = ap (λ r. r .skip) (sym opened-cycle) ∙ record-skip (entry .args .skip) (entry .args .shape) 0
 
-check-skip-requires : tie.Need-check-skip-requires
-check-skip-requires c κs = search needs
+check-shape-requires : tie.Need-check-shape-requires
+check-shape-requires c κs = search needs
 
-check-matches-requires : tie.Need-check-matches-requires
-check-matches-requires c κs =
-    let args = c .before .before .before .before .before .before .before .args in
-    answer-tells (args .shape) (c .check-skip .result) (startArguments (args .shape) (args .skip)) (c .check-skip .ensures)
+check-requires : tie.Need-check-requires
+check-requires c κs = search needs
+
+check-lent-requires : tie.Need-check-lent-requires
+check-lent-requires c κs = search needs
 
 enum-known-number : tie.Need-enum-known-number
 enum-known-number c = search needs
@@ -125,36 +152,54 @@ enum-known-number c = search needs
 refused-requires : tie.Need-refused-requires
 refused-requires c κs = search needs
 
-enum-told : tie.Need-enum-told
-enum-told c = search needs
+enum-known-sizes : tie.Need-enum-known-sizes
+enum-known-sizes c = search needs
 
-start-requires : tie.Need-start-requires
-start-requires c κs = search needs
+start-lent-requires : tie.Need-start-lent-requires
+start-lent-requires c κs =
+    let told = c .before .before .before in
+    let start = entered told in
+    let s = start .args .shape in
+    record {
+      none = start-asked s (parts told .taken) (stateOf (lent start noMemory) (start .args .cycle)) (sized told) (start .args .skip) ∙ parts told .numbers;
+      sizes = asked told .sizes;
+    }
 
 run-open-requires : tie.Need-run-open-requires
 unfolding started
 run-open-requires c κs =
     let begin = opened c in
-    let p = passed begin in
-    let s = entered p .args .shape in
-    let z = subst (λ st. Sized s (st .memory)) (made begin) (started-sized _ (given begin noMemory) (sized p) (entered p .args .skip)) in
-    let first = sym (opened-cycle begin) ∙ ap (λ z. cycleAt z s 0) (sym (kept begin)) in
-    ((taken p, rw (kept begin) (coarse p .0), first), (z, matches-sized p))
+    let told = passed begin in
+    let start = entry begin in
+    let s = start .args .shape in (
+      record {
+        taken = parts told .taken;
+        sizes = asked told .sizes;
+        partial = rw (kept begin) (partial told);
+        first = sym (opened-cycle begin) ∙ ap (λ z. cycleAt z s 0) (sym (kept begin));
+      },
+      record {
+        memory = subst (λ st. Sized s (st .memory)) (made begin) (started-sized _ (given begin noMemory) (sized told) (start .args .skip));
+        matches = matches-sized told;
+      },
+    )
 
 done-requires : tie.Need-done-requires
 done-requires c κs = search needs
 
+-- refused
 returns : tie.Need-returns
 unfolding cycleCall
 returns c =
-    let asked = c .before .before .before .before in
-    let start = begun asked in
-    let number = c .before .before .number .given in
+    let told = c .before .before in
+    let answer = told .before .before in
+    let start = begun answer in
+    let number = told .number .given in
     λ mem. gives-refusal (questions start) (start .args .matches .now) (lent start mem) (start .args .cycle) _ _ (number .0 .0)
-    (fails (questions start) (start .args .shape) (number .0 .0) (told (answered asked) (number .1))) (c .refused .ensures)
+    (door-refused (questions start) (start .args .shape) (answer .check-lent .result) (answered answer) (number .0 .0) (number .1)) (c .refused .ensures)
 
 same-length : tie.Need-same-length
-same-length c = ran c .run-open .kept .1 .1 .1 .1 .0 ∙ opened (ran c .before) .start .kept .1 .1 .1 .0
+same-length c = let steps = ran (c .before) in steps .run-open .kept .1 .1 .1 .1 .1 .0 ∙ opened (steps .before) .start-lent .kept .1 .1 .1 .0
 
 same-length-2 : tie.Need-same-length-2
 same-length-2 c = search needs
@@ -165,31 +210,34 @@ same-length-3 c = search needs
 same-length-4 : tie.Need-same-length-4
 same-length-4 c = search needs
 
+-- a whole cycle
 returns-2 : tie.Need-returns-2
 unfolding cycleCall lastMatches entryMatches
 returns-2 c =
-    let begin = opened (ran c .before) in
-    let entry = entered (passed begin) in
-    let s = entry .args .shape in
-    let matches = entry .args .matches .now in
-    let last = ran c .run-open .last .1 .1 .1 .1 in
-    λ mem. call-done (questions entry) matches (given begin mem) _ (none (passed begin))
-    ∙ ap₂ (λ z st. giving (accepted 0) (lastMatches z s (lent entry mem)) (runFrom s st (replicate (cycleSteps z s) (step matches)))) (sym (kept begin))
+    let steps = ran (c .before) in
+    let begin = opened (steps .before) in
+    let start = entry begin in
+    let s = start .args .shape in
+    let matches = start .args .matches .now in
+    let last = steps .run-open .last .1 .1 .1 .1 .1 in
+    λ mem. call-done (questions start) matches (given begin mem) _ (asked (passed begin) .none)
+    ∙ ap₂ (λ z st. giving (accepted 0) (lastMatches z s (lent start mem)) (afterSteps s st (replicate (cycleSteps z s) matches))) (sym (kept begin))
     (left begin mem)
-    ∙ ran c .run-open .ensures mem
-    ∙ ap (λ r. changing r (last .1 .1 .1 .0) (withAll (entry .args .cells .now) (entry .args .lines .now) (last .0) (last .1 .0) (last .1 .1 .0) mem))
+    ∙ steps .run-open .ensures mem
+    ∙ ap (λ r. changing r (last .1 .1 .1 .0) (withAll (start .args .cells .now) (start .args .lines .now) (last .0) (last .1 .0) (last .1 .1 .0) mem))
     (sym (c .done .ensures))
 
 pub run-cycle-spec : {M : Type 1} → statement M
 run-cycle-spec =
     tie.close
     (tie.spec
-    check-skip-requires
-    check-matches-requires
+    check-shape-requires
+    check-requires
+    check-lent-requires
     enum-known-number
     refused-requires
-    enum-told
-    start-requires
+    enum-known-sizes
+    start-lent-requires
     run-open-requires
     done-requires
     returns

@@ -3,12 +3,15 @@ use borrow.Author.Tests.{ne-eqb}
 use Rattle.ffi_words.proofs.phase_of.Statement.{statement}
 use Rattle.ffi_words.proofs.phase_of.Tie as tie
 
+-- open
 returns : tie.Need-returns
 returns c = rw (c .match .keys1)
 
+-- complete
 returns-2 : tie.Need-returns-2
 returns-2 c = rw (c .match .keys2)
 
+-- any other word
 returns-3 : tie.Need-returns-3
 returns-3 c = simp (ne-eqb (c .before .args .word) 1 (c .match .rest .0 .1), ne-eqb (c .before .args .word) 2 (c .match .rest .1))
 

@@ -26,11 +26,13 @@ enum-told c = search needs
 words-of-requires : tie.Need-words-of-requires
 words-of-requires c κs = search needs
 
+-- refused
 returns : tie.Need-returns
 returns c =
     let args = c .before .before .before .before .args in
     told (args .changed) (args .words .now) (c .before .outcome .given .1)
 
+-- stored
 returns-2 : tie.Need-returns-2
 returns-2 c =
     let args = c .before .before .before .before .args in

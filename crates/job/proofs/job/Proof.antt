@@ -1,26 +1,28 @@
--- `job::job` meets its contract: a job that is taken is run on the front parts of its buffers, and its report is its head with the lines of
--- its rows behind. Assumes nothing.
+-- `job::job` meets its contract: a job that is taken is run on the front parts of its buffers, and its report is its head and then the lines of
+-- its rows. Assumes nothing.
 use mathlib.Core.Path.{_≡_, sym, _∙_, ap, subst}
 use mathlib.Core.Bool.{Bool, true, not, Bool·not-not}
 use mathlib.Core.List.{List, _++_}
-use Prim.Native.Nat.{ℕ, _*_, _≤_}
+use Prim.Native.Nat.{ℕ, _≤_}
 use native.Mathlib.Omega.{arith}
 use lib.ListN.{length, take, drop, length-append}
 use lib.Seq.{length-take-le, take-at}
 use borrow.Author.Needs.{needs}
-use Rattle.parity.specs.Shape.{columns}
+use Rattle.parity.specs.Shape.{cellCount}
 use Rattle.parity.specs.declared.Shape.{Shape}
 use Rattle.parity.proofs.Taken.{limits}
-use Rattle.shape.proofs.Refusals.{told, fails, Passes, passes}
-use Rattle.array_memory.specs.Memory.{withAll, noMemory, cellCount}
-use Rattle.array_memory.proofs.BlockPlaces.{blocks-few}
+use Rattle.shape.specs.Answers.{outcomeSays}
+use Rattle.shape.specs.Shapes.{Passed}
+use Rattle.shape.proofs.Refusals.{door-passed, door-refused}
+use Rattle.array_memory.specs.Blocks.{blocksOf}
+use Rattle.array_memory.specs.Memory.{withAll, noMemory}
 use Rattle.cycle.specs.Calls.{State, stateOf}
-use Rattle.job_parse.specs.Parse.{jobShape, jobQuestions, jobRefusal}
+use Rattle.job_parse.specs.Parse.{jobShape, mostCells, jobQuestions, jobRefusal}
 use Rattle.job_text.specs.Text.{headText, rowsText}
 use Rattle.job_text.specs.Written.{Wrote}
 use Rattle.job_text.proofs.Lengths.{head-short}
 use Rattle.job_text.proofs.Written.{wrote-append}
-use Rattle.job.specs.Job.{Space, space, roomy, printed, reportText}
+use Rattle.job.specs.Job.{Space, space, mostRows, roomy, printed, reportText}
 use Rattle.job.proofs.TakenJob.{TakenJob, takenJob}
 use Rattle.job.proofs.JobSpace.{Room, room, front-written, no-room, refused-job, taken-job}
 use Rattle.job.proofs.job.Statement.{statement}
@@ -34,11 +36,14 @@ begun c = c .before .before .before .before .before .before .before .before .bef
 abbrev refusing : tie.After-put-refusal-arg → tie.Else1
 refusing c = c .before .before .before .before .before
 
+abbrev lending : tie.After-run-calls-arg4 → tie.After-block-count
+lending c = c .before .before .before .before
+
 abbrev counted : tie.After-run-calls → tie.After-block-count
-counted c = c .before .before .before .before .before .before .before
+counted c = lending (c .before .before .before)
 
 abbrev ran : tie.After-put-head-arg → tie.After-run-calls
-ran c = c .before .before .before .before .before .before .before .before .before .before .before .before .before
+ran c = c .before .before .before .before .before .before .before .before .before .before .before .before .before .before
 
 abbrev headed : tie.After-put-rows-arg2 → tie.After-put-head
 headed c = c .before .before .before .before
@@ -69,9 +74,12 @@ module _ (c : tie.After-sizes) where
   abbrev start : tie.Start
   start = entered (c .before .before .before)
 
-  passed : Passes (jobQuestions (start .args .input .now)) (jobShape (start .args .input .now)) (c .sizes .given .0 .0)
+  passed : Passed (jobQuestions (start .args .input .now)) (jobShape (start .args .input .now)) (c .sizes .given .0 .0)
   unfolding jobRefusal
-  passed = passes _ _ _ (told (c .before .before .check-job .ensures) (c .sizes .given .1))
+  passed =
+      let answer = c .before .before in
+      door-passed (jobQuestions (start .args .input .now)) (jobShape (start .args .input .now)) (answer .check-job .result) (answer .check-job .ensures)
+      (c .sizes .given .1)
 
   none : jobRefusal (start .args .input .now) ≡ 0
   unfolding jobRefusal
@@ -81,15 +89,15 @@ module _ (c : tie.After-sizes) where
   job-taken = takenJob _ none
 
 -- its sizes, and that its parts fit
-module _ (c : tie.After-struct-known) where
+module _ (c : tie.After-shape-of) where
   abbrev s : Shape
-  s = c .before .shape-of .result
+  s = c .shape-of .result
 
   abbrev sized : tie.After-sizes
-  sized = c .before .before .before
+  sized = c .before .before
 
   abbrev end : ℕ
-  end = s .rows * sized .sizes .given .0 .0 .columns
+  end = sized .sizes .given .0 .0 .cells
 
   abbrev given : Space
   given = lent (start sized)
@@ -97,15 +105,14 @@ module _ (c : tie.After-struct-known) where
   space-long : Room given
   space-long = long (sized .before .before .before)
 
-  rows-few : s .rows ≤ 4096
-  rows-few = rw (c .before .shape-of .ensures) (limits _ (job-taken sized .taken) .rowsHigh)
+  rows-few : s .rows ≤ mostRows
+  rows-few = rw (c .shape-of .ensures) (limits _ (job-taken sized .taken) .rowsHigh)
 
   end-is : end ≡ cellCount s
-  unfolding cellCount
-  end-is = ap (λ z. s .rows * z .columns) (passed sized .sizes) ∙ ap (λ x. s .rows * columns x) (sym (c .before .shape-of .ensures))
+  end-is = ap (λ z. z .cells) (passed sized .sizes) ∙ ap cellCount (sym (c .shape-of .ensures))
 
-  cells-few : end ≤ 16384
-  cells-few = rw (end-is, c .before .shape-of .ensures) (job-taken sized .cells)
+  cells-few : end ≤ mostCells
+  cells-few = rw (end-is, c .shape-of .ensures) (job-taken sized .cells)
 
   -- the parts that are lent
   cells-fit : end ≤ length (given .cells)
@@ -124,11 +131,12 @@ module _ (c : tie.After-struct-known) where
   matches-fit = omega (arith, rows-few, space-long .matches)
 
 totals-fit : (c : tie.After-block-count) → c .block-count .result ≤ length (given (c .before) .totals)
-totals-fit c = omega (arith, c .block-count .ensures, blocks-few (s (c .before) .rows) (rows-few (c .before)), space-long (c .before) .totals)
+unfolding blocksOf
+totals-fit c = omega (arith, c .block-count .ensures, rows-few (c .before), space-long (c .before) .totals)
 
 -- what the run leaves in the parts
 module _ (c : tie.After-run-calls) where
-  abbrev h : tie.After-struct-known
+  abbrev h : tie.After-shape-of
   h = counted c .before
 
   abbrev parts : Space
@@ -166,7 +174,9 @@ module _ (c : tie.After-run-calls) where
 
   -- the state when the calls are over
   abbrev after : State
-  after = stateOf (withAll (parts .cells) (parts .lines) (parts .counters) (parts .flags) (parts .totals) noMemory) (c .run-calls .result)
+  after =
+      stateOf (withAll (parts .cells) (parts .lines) (parts .counters) (parts .flags) (parts .totals) noMemory)
+      (c .run-calls .result .cycle)
 
 -- the first line is short, whatever is in it
 line-end : (levels columns count : ℕ) {end : ℕ} {out after : List ℕ} → Wrote 0 (headText levels columns count) out end after → end ≤ 86
@@ -175,7 +185,7 @@ line-end levels columns count w = omega (arith, w .place, head-short levels colu
 head-end : (c : tie.After-put-head) → c .put-head .result ≤ 86
 head-end c = line-end _ _ _ (c .put-head .ensures)
 
--- the texts, one behind the other, are the report of that state
+-- the texts, one after the other, are the report of that state
 report :
     (c : tie.After-put-rows)
     → let r = ran (headed (c .before) .before) in
@@ -186,9 +196,9 @@ report c =
     let r = ran (head .before) in
     let sizes = passed (sized (h r)) .sizes in
     let input = start (sized (h r)) .args .input .now in
-    let rows : length (take (s (h r) .rows) (flags-now r)) ≡ jobShape input .rows = flags-front r ∙ ap (λ s. s .rows) (h r .before .shape-of .ensures) in
+    let rows : length (take (s (h r) .rows) (flags-now r)) ≡ jobShape input .rows = flags-front r ∙ ap (λ s. s .rows) (h r .shape-of .ensures) in
     subst (λ text. Wrote 0 text (given (h r) .out) (c .put-rows .result) (c .put-rows .last .0))
-    (λ i. headText (sizes i .levels) (sizes i .columns) (r .run-calls .result .count) ++ rowsText (rows i) (front r i))
+    (λ i. headText (sizes i .levels) (sizes i .columns) (r .run-calls .result .cycle .count) ++ rowsText (rows i) (front r i))
     (wrote-append (omega (arith, head-end head, space-long (h r) .out)) (head .put-head .ensures) (c .put-rows .ensures))
 
 -- ---- the needs
@@ -196,6 +206,7 @@ report c =
 has-room-requires : tie.Need-has-room-requires
 has-room-requires c κs = search needs
 
+-- too little room
 returns : tie.Need-returns
 returns c = no-room (begun (c .before) .args .input .now) (lent (begun (c .before))) (roomed (c .before) _ (c .if1 .taken))
 
@@ -214,11 +225,8 @@ enum-known-sizes c = search needs
 shape-of-requires : tie.Need-shape-of-requires
 shape-of-requires c κs = omega (arith, job-taken (c .before) .sized)
 
-mul-end : tie.Need-mul-end
-mul-end c = omega (arith, cells-few c)
-
 block-count-requires : tie.Need-block-count-requires
-block-count-requires c κs = rows-few c
+block-count-requires c κs = search needs
 
 slice-relend-prefix-run-calls : tie.Need-slice-relend-prefix-run-calls
 slice-relend-prefix-run-calls c = cells-fit (c .before)
@@ -242,38 +250,39 @@ slice-relend-prefix-run-calls-4 : tie.Need-slice-relend-prefix-run-calls-4
 slice-relend-prefix-run-calls-4 c = flags-fit (c .before .before .before .before)
 
 slice-aggregate-run-calls-4 : tie.Need-slice-aggregate-run-calls-4
-slice-aggregate-run-calls-4 c = sym (length-take-le _ _ (flags-fit (c .before .before .before .before .before)))
+slice-aggregate-run-calls-4 c = sym (length-take-le _ _ (flags-fit (lending c .before)))
 
 slice-relend-prefix-run-calls-5 : tie.Need-slice-relend-prefix-run-calls-5
-slice-relend-prefix-run-calls-5 c = totals-fit (c .before .before .before .before)
+slice-relend-prefix-run-calls-5 c = totals-fit (lending c)
 
 slice-aggregate-run-calls-5 : tie.Need-slice-aggregate-run-calls-5
-slice-aggregate-run-calls-5 c = sym (length-take-le _ _ (totals-fit (c .before .before .before .before .before)))
+slice-aggregate-run-calls-5 c = sym (length-take-le _ _ (totals-fit (lending (c .before))))
 
 slice-relend-prefix-run-calls-6 : tie.Need-slice-relend-prefix-run-calls-6
-slice-relend-prefix-run-calls-6 c = matches-fit (c .before .before .before .before .before .before)
+slice-relend-prefix-run-calls-6 c = matches-fit (lending (c .before) .before)
 
 slice-aggregate-run-calls-6 : tie.Need-slice-aggregate-run-calls-6
-slice-aggregate-run-calls-6 c = sym (length-take-le _ _ (matches-fit (c .before .before .before .before .before .before .before)))
+slice-aggregate-run-calls-6 c = sym (length-take-le _ _ (matches-fit (lending (c .before .before) .before)))
 
 run-calls-requires : tie.Need-run-calls-requires
 run-calls-requires c κs =
-    let blocks = c .before .before .before .before .before .before in
+    let blocks = lending (c .before .before) in
     let h = blocks .before in (
-      (none (sized h), h .before .shape-of .ensures),
-      (
-        record {
-          cells = length-take-le _ _ (cells-fit h) ∙ end-is h;
-          lines = length-take-le _ _ (lines-fit h);
-          rows =
-              record {
-                counters = length-take-le _ _ (counters-fit h);
-                flags = length-take-le _ _ (flags-fit h);
-                totals = length-take-le _ _ (totals-fit blocks) ∙ blocks .block-count .ensures;
-              };
-        },
-        length-take-le _ _ (matches-fit h),
-      ),
+      record { none = none (sized h); shape = h .shape-of .ensures },
+      record {
+        memory =
+            record {
+              cells = length-take-le _ _ (cells-fit h) ∙ end-is h;
+              lines = length-take-le _ _ (lines-fit h);
+              rows =
+                  record {
+                    counters = length-take-le _ _ (counters-fit h);
+                    flags = length-take-le _ _ (flags-fit h);
+                    totals = length-take-le _ _ (totals-fit blocks) ∙ blocks .block-count .ensures;
+                  };
+            };
+        matches = length-take-le _ _ (matches-fit h);
+      },
     )
 
 put-head-requires : tie.Need-put-head-requires
@@ -296,6 +305,7 @@ put-rows-requires c κs =
 same-length : tie.Need-same-length
 same-length c = search needs
 
+-- refused
 returns-2 : tie.Need-returns-2
 unfolding jobRefusal
 returns-2 c =
@@ -303,8 +313,10 @@ returns-2 c =
     let named = put .before .before .before in
     let room = refusing (put .before) in
     let input = entered room .args .input .now in
-    refused-job input (lent (entered room)) (has room) (named .number .given .0 .0)
-    (fails (jobQuestions input) (jobShape input) _ (told (named .before .before .check-job .ensures) (named .number .given .1)))
+    let answer = named .before .before in
+    let number = named .number .given in
+    refused-job input (lent (entered room)) (has room) (number .0 .0)
+    (door-refused (jobQuestions input) (jobShape input) (answer .check-job .result) (answer .check-job .ensures) (number .0 .0) (number .1))
     (put .put-refusal .ensures)
 
 same-length-2 : tie.Need-same-length-2
@@ -328,14 +340,15 @@ same-length-7 c = search needs
 same-length-8 : tie.Need-same-length-8
 same-length-8 c = search needs
 
+-- run and reported
 returns-3 : tie.Need-returns-3
 returns-3 c =
     let put = c .before .before in
     let r = ran (headed (put .before) .before) in
     let sp = given (h r) in
     let left = parts r in
-    taken-job (start (sized (h r)) .args .input .now) sp (has (sized (h r) .before .before .before)) (none (sized (h r))) (left .matches) (after r)
-    (r .run-calls .ensures) (report put)
+    taken-job (start (sized (h r)) .args .input .now) sp (has (sized (h r) .before .before .before)) (none (sized (h r)))
+    (outcomeSays (r .run-calls .result .outcome)) (left .matches) (after r) (r .run-calls .ensures) (report put)
     ∙ (λ i.
     printed (put .put-rows .result)
     (space (front-written (left .cells) (sp .cells) _ (cells-length r) i) (front-written (left .lines) (sp .lines) _ (lines-length r) i)
@@ -355,7 +368,6 @@ job-spec =
     put-refusal-requires
     enum-known-sizes
     shape-of-requires
-    mul-end
     block-count-requires
     slice-relend-prefix-run-calls
     slice-aggregate-run-calls

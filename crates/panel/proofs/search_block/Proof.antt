@@ -25,6 +25,7 @@ shared-slice-read-flag c = omega arith
 add-read : tie.Need-add-read Inv-loop μ-loop
 add-read c = omega arith
 
+-- a flag found
 returns : tie.Need-returns Inv-loop μ-loop
 returns c =
     let turn = c .before .before .before in
@@ -40,6 +41,7 @@ loop-again c =
     let flag = getD (turn .before .args .flags .now) (turn .loop .read) 0 in
     left-next _ (turn .loop .inv) (omega arith) (ap not (eq-eqb flag 0 (c .if1 .left)))
 
+-- no flag up
 returns-2 : tie.Need-returns-2 Inv-loop μ-loop
 returns-2 c = left-none _ (c .before .loop .inv) (omega arith)
 

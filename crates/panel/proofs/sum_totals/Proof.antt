@@ -82,6 +82,7 @@ loop-again c =
       few = ⊎-elim (λ w. omega (arith, loop .inv .few)) (λ w. omega (arith, loop .inv .few)) (c .if1 .came);
     }
 
+-- all totals read
 returns : tie.Need-returns Inv-loop μ-loop
 returns c =
     let loop = c .before .loop in

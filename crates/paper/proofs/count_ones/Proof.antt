@@ -53,6 +53,7 @@ loop-less c = omega arith
 loop-again : tie.Need-loop-again Inv-loop μ-loop
 loop-again c = (omega arith, next c)
 
+-- every column
 returns : tie.Need-returns Inv-loop μ-loop
 returns c = omega arith
 

@@ -13,6 +13,7 @@ use Rattle.paper.proofs.lookups_made.Tie as tie
 abbrev zeros : List ℕ
 zeros = replicate 64 0
 
+-- too many columns
 returns : tie.Need-returns
 returns c = search needs
 
@@ -40,12 +41,14 @@ slice-aggregate-run-cycle-6 c = search needs
 run-cycle-requires : tie.Need-run-cycle-requires
 run-cycle-requires c κs = search needs
 
+-- no lookup
 returns-2 : tie.Need-returns-2
 returns-2 c = search needs
 
 sub-result : tie.Need-sub-result
 sub-result c = search needs
 
+-- without the opening
 returns-3 : tie.Need-returns-3
 returns-3 c = search needs
 

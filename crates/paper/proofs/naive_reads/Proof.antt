@@ -2,9 +2,11 @@
 use native.Mathlib.Nat.{le-trans, mul-le-mul}
 use native.Mathlib.Omega.{arith}
 use borrow.Author.Needs.{needs}
+use Rattle.parity.specs.Questions.{shapeRefusal}
 use Rattle.parity.proofs.Taken.{limits}
 use Rattle.parity.proofs.Redundancy.{limit-high}
-use Rattle.shape.proofs.Refusals.{told, passed}
+use Rattle.shape.specs.Shapes.{sizesOf, noSizes}
+use Rattle.shape.proofs.Refusals.{told, said-value}
 use Rattle.paper.proofs.naive_reads.Statement.{statement}
 use Rattle.paper.proofs.naive_reads.Tie as tie
 
@@ -24,7 +26,8 @@ mul-put : tie.Need-mul-put
 mul-put c =
     let checked = c .before .before .before .before in
     let s = checked .before .args .shape in
-    let limit = limits s (passed s _ (told (checked .check-shape .ensures) (c .before .before .enum-told2 .given .1)) .taken) in
+    let answer = said-value noSizes (sizesOf s) (shapeRefusal s) _ (told (checked .check-shape .ensures) (c .before .before .enum-told2 .given .1)) in
+    let limit = limits s (answer .0) in
     let high = limit-high (s .errors) (limit .errorsLow) (limit .errorsHigh) in
     omega (arith, mul-le-mul (limit .rowsHigh) (le-trans (limit .widthHigh) high))
 
@@ -34,9 +37,11 @@ put-requires c κs = search needs
 end-line-requires : tie.Need-end-line-requires
 end-line-requires c κs = search needs
 
+-- refused
 returns : tie.Need-returns
 returns c = search needs
 
+-- printed
 returns-2 : tie.Need-returns-2
 returns-2 c = search needs
 

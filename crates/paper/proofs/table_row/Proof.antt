@@ -1,6 +1,9 @@
 -- `paper::table_row` meets its contract: a shape that is taken has the sizes in hand. Assumes nothing.
+use mathlib.Core.Path.{ap}
 use borrow.Author.Needs.{needs}
-use Rattle.shape.proofs.Refusals.{told, passed}
+use Rattle.parity.specs.Questions.{shapeRefusal}
+use Rattle.shape.specs.Shapes.{sizesOf, noSizes}
+use Rattle.shape.proofs.Refusals.{told, said-value}
 use Rattle.paper.proofs.table_row.Statement.{statement}
 use Rattle.paper.proofs.table_row.Tie as tie
 
@@ -19,8 +22,9 @@ enum-known-sizes c = search needs
 matrix-of-requires : tie.Need-matrix-of-requires
 matrix-of-requires c κs =
     let sizes = c .before in
-    let p = passed _ _ (told (sizes .before .before .check-shape .ensures) (sizes .sizes .given .1)) in
-    (p .taken, p .checks)
+    let s = sizes .before .before .before .example .result in
+    let answer = said-value noSizes (sizesOf s) (shapeRefusal s) _ (told (sizes .before .before .check-shape .ensures) (sizes .sizes .given .1)) in
+    record { taken = answer .0; checks = ap (λ z. z .checks) (answer .1) }
 
 slice-aggregate-put : tie.Need-slice-aggregate-put
 slice-aggregate-put c = search needs
@@ -76,9 +80,11 @@ put-requires-6 c κs = search needs
 end-line-requires : tie.Need-end-line-requires
 end-line-requires c κs = search needs
 
+-- refused
 returns : tie.Need-returns
 returns c = search needs
 
+-- printed
 returns-2 : tie.Need-returns-2
 returns-2 c = search needs
 

@@ -1,10 +1,12 @@
 -- `paper::wider` meets its contract: a shape that is taken has the sizes in hand, with at most 8 check columns; 50 columns are lent. Assumes nothing.
-use mathlib.Core.Path.{sym}
+use mathlib.Core.Path.{_≡_, sym, ap}
 use native.Mathlib.Omega.{arith}
 use lib.Seq.{length-take-le}
 use borrow.Author.Needs.{needs}
+use Rattle.parity.specs.Questions.{shapeRefusal, Taken}
 use Rattle.parity.proofs.Redundancy.{redundancyClaim}
-use Rattle.shape.proofs.Refusals.{Passed, told, passed}
+use Rattle.shape.specs.Shapes.{sizesOf, noSizes}
+use Rattle.shape.proofs.Refusals.{told, said-value}
 use Rattle.paper.proofs.wider.Statement.{statement}
 use Rattle.paper.proofs.wider.Tie as tie
 
@@ -15,8 +17,10 @@ found c = c .before .before
 abbrev made : tie.After-matrix → tie.After-matrix-of
 made c = c .before .before .before .before
 
-taken : (c : tie.After-sizes) → Passed (c .before .before .before .example .result) (c .sizes .given .0 .0)
-taken c = passed _ _ (told (c .before .before .check-shape .ensures) (c .sizes .given .1))
+taken : (c : tie.After-sizes) → let s = c .before .before .before .example .result in Taken s × (c .sizes .given .0 .0 ≡ sizesOf s)
+taken c =
+    let s = c .before .before .before .example .result in
+    said-value noSizes (sizesOf s) (shapeRefusal s) (c .sizes .given .0 .0) (told (c .before .before .check-shape .ensures) (c .sizes .given .1))
 
 example-requires : tie.Need-example-requires
 example-requires c κs = search needs
@@ -31,7 +35,7 @@ enum-known-sizes : tie.Need-enum-known-sizes
 enum-known-sizes c = search needs
 
 matrix-of-requires : tie.Need-matrix-of-requires
-matrix-of-requires c κs = let p = taken (c .before) in (p .taken, p .checks)
+matrix-of-requires c κs = let answer = taken (c .before) in record { taken = answer .0; checks = ap (λ z. z .checks) (answer .1) }
 
 slice-aggregate-put : tie.Need-slice-aggregate-put
 slice-aggregate-put c = search needs
@@ -53,8 +57,8 @@ count-ones-requires c κs = omega (arith, length-take-le 50 (made c .matrix-of .
 
 add-put : tie.Need-add-put
 add-put c =
-    let p = taken (found (made (c .before))) in
-    omega (arith, redundancyClaim _ (p .taken) .high, p .checks, c .count-ones .ensures)
+    let answer = taken (found (made (c .before))) in
+    omega (arith, redundancyClaim _ (answer .0) .high, ap (λ z. z .checks) (answer .1), c .count-ones .ensures)
 
 put-requires-2 : tie.Need-put-requires-2
 put-requires-2 c κs = search needs
@@ -62,9 +66,11 @@ put-requires-2 c κs = search needs
 end-line-requires : tie.Need-end-line-requires
 end-line-requires c κs = search needs
 
+-- refused
 returns : tie.Need-returns
 returns c = search needs
 
+-- printed
 returns-2 : tie.Need-returns-2
 returns-2 c = search needs
 

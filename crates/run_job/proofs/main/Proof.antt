@@ -4,6 +4,7 @@ use Prim.Native.Nat.{ℕ, _≤_}
 use lib.ListN.{length, length-replicate}
 use lib.Seq.{length-take-le}
 use borrow.Author.Needs.{needs}
+use Rattle.job.specs.Job.{mostText}
 use Rattle.run_job.proofs.main.Statement.{statement}
 use Rattle.run_job.proofs.main.Tie as tie
 
@@ -14,7 +15,7 @@ called c = c .before .before .before .before .before .before .before .before
 -- the text ends within the buffer
 within : (c : tie.Else1) → called c .job .result ≤ length (called c .job .last .1 .1 .1 .1 .1 .1 .1 .0)
 within c =
-    subst (λ n. called c .job .result ≤ n) (sym (called c .job .kept .1 .1 .1 .1 .1 .1 .1 .0 ∙ length-replicate {A = ℕ} 200000 0)) (c .if1 .left)
+    subst (λ n. called c .job .result ≤ n) (sym (called c .job .kept .1 .1 .1 .1 .1 .1 .1 .0 ∙ length-replicate {A = ℕ} mostText 0)) (c .if1 .left)
 
 slice-aggregate-read-full : tie.Need-slice-aggregate-read-full
 slice-aggregate-read-full c = search needs
@@ -52,6 +53,7 @@ slice-aggregate-job-8 c = search needs
 job-requires : tie.Need-job-requires
 job-requires c κs = search needs
 
+-- too long a text
 returns : tie.Need-returns
 returns c = search needs
 
@@ -64,6 +66,7 @@ slice-aggregate-write-all c = sym (length-take-le _ _ (within (c .before)))
 write-all-requires : tie.Need-write-all-requires
 write-all-requires c κs = search needs
 
+-- all written
 returns-2 : tie.Need-returns-2
 returns-2 c = search needs
 

@@ -8,6 +8,7 @@ use Rattle.parity.specs.Match.{matchByte, lineMatch}
 use Rattle.acam.proofs.compare.line_match.Statement.{statement}
 use Rattle.acam.proofs.compare.line_match.Tie as tie
 
+-- a dead line
 returns : tie.Need-returns
 unfolding lineMatch
 returns c =
@@ -18,6 +19,7 @@ returns c =
 match-byte-requires : tie.Need-match-byte-requires
 match-byte-requires c κs = search needs
 
+-- a sound line
 returns-2 : tie.Need-returns-2
 unfolding lineMatch
 returns-2 c =

@@ -36,6 +36,7 @@ shared-slice-read-answers-2 c = omega arith
 answers-requires : tie.Need-answers-requires Inv-loop μ-loop
 answers-requires c κs = search needs
 
+-- a cell says no
 returns : tie.Need-returns Inv-loop μ-loop
 unfolding matchByte
 returns c =
@@ -66,6 +67,7 @@ loop-again c =
           ∙ loop .inv .1,
     )
 
+-- all cells answer
 returns-2 : tie.Need-returns-2 Inv-loop μ-loop
 unfolding matchByte
 returns-2 c =

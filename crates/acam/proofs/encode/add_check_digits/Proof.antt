@@ -33,7 +33,7 @@ array-read-missing : tie.Need-array-read-missing Inv-loop μ-loop
 array-read-missing c = omega arith
 
 missing-requires : tie.Need-missing-requires Inv-loop μ-loop
-missing-requires c κs = begun (c .before) .pre .0 .0
+missing-requires c κs = begun (c .before) .pre .radix
 
 slice-read-wide : tie.Need-slice-read-wide Inv-loop μ-loop
 slice-read-wide c = omega arith
@@ -55,7 +55,7 @@ cell c =
       ap₂ (λ v d. v + d * args .power)
           (c .wide .ensures ∙ ap (λ xs. getD xs (loop .l) 0) (loop .inv .2) ∙ filled-here f (args .cells .now) (loop .l) 0)
           (c .before .before .missing .ensures),
-      begun (looped c) .pre .1 (loop .l) (omega arith),
+      begun (looped c) .pre .room (loop .l) (omega arith),
     )
 
 mul-cells : tie.Need-mul-cells Inv-loop μ-loop

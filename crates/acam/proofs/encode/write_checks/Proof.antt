@@ -18,17 +18,17 @@ use Rattle.acam.proofs.encode.write_checks.Tie as tie
 array-borrow-prefix-rules : tie.Need-array-borrow-prefix-rules
 array-borrow-prefix-rules c =
     let start = c .before in
-    omega (arith, fits (start .args .shape) (start .pre .0) (start .args .checks) (start .pre .1))
+    omega (arith, fits (start .args .shape) (start .pre .taken) (start .args .checks) (start .pre .checks))
 
 slice-aggregate-fill-rules : tie.Need-slice-aggregate-fill-rules
 slice-aggregate-fill-rules c =
     let start = c .before .before in
-    sym (front (start .args .shape) (start .pre .0) (start .args .checks) (start .pre .1))
+    sym (front (start .args .shape) (start .pre .taken) (start .args .checks) (start .pre .checks))
 
 fill-rules-requires : tie.Need-fill-rules-requires
 fill-rules-requires c κs =
     let start = c .before .before in
-    rules-ask (start .args .shape) (start .pre .0) (start .args .checks) (start .pre .1)
+    rules-ask (start .args .shape) (start .pre .taken) (start .args .checks) (start .pre .checks)
 
 -- once the columns are made
 module _ (c : tie.After-write-digits-arg) where
@@ -42,10 +42,10 @@ module _ (c : tie.After-write-digits-arg) where
   made = c .before .before .fill-rules .last .0
 
   are-rules : made ≡ ruleColumns (shape .errors) (checks shape) (shape .width)
-  are-rules = c .before .before .fill-rules .ensures ∙ rules-fill shape (start .pre .0) (start .args .checks) (start .pre .1)
+  are-rules = c .before .before .fill-rules .ensures ∙ rules-fill shape (start .pre .taken) (start .args .checks) (start .pre .checks)
 
   sized : length made ≡ shape .width
-  sized = ap length are-rules ∙ rules-sized shape (start .pre .0)
+  sized = ap length are-rules ∙ rules-sized shape (start .pre .taken)
 
   -- the part of the array that holds them
   part : take (shape .width) (made ++ drop (shape .width) zeros) ≡ made
@@ -58,7 +58,9 @@ slice-aggregate-write-digits : tie.Need-slice-aggregate-write-digits
 slice-aggregate-write-digits c = sym (ap length (part (c .before)) ∙ sized (c .before))
 
 write-digits-requires : tie.Need-write-digits-requires
-write-digits-requires c κs = (start (c .before) .pre .0, start (c .before) .pre .2, part (c .before) ∙ are-rules (c .before))
+write-digits-requires c κs =
+    let pre = start (c .before) .pre in
+    record { taken = pre .taken; cells = pre .cells; rules = part (c .before) ∙ are-rules (c .before) }
 
 same-length : tie.Need-same-length
 same-length c = search needs

@@ -87,7 +87,7 @@ summed c = c .before .before .before .before
 
 -- each rule cell has its column
 a-column-each : (c : tie.Start Inv-loop μ-loop) → length (c .args .rules .now) ≡ c .args .shape .width
-a-column-each c = ap length (c .pre .2) ∙ rules-sized (c .args .shape) (c .pre .0)
+a-column-each c = ap length (c .pre .rules) ∙ rules-sized (c .args .shape) (c .pre .taken)
 
 -- the row where the loop begins
 abbrev first : tie.After-slice-known2 Inv-loop μ-loop → List ℕ
@@ -141,13 +141,13 @@ floor-sums-requires c κs =
     let start = begun (c .before .before .before) in
     let loop = c .before .before .loop in
     let k = start .args .shape .width in
-    omega (
-      arith,
-      power-fits (start .args .shape) (start .pre .0) (loop .s) (loop .power) (loop .inv .1) (omega arith),
-      length-take k (loop .row),
-      a-column-each start,
-      columns-high (start .args .shape) (start .pre .0),
-    )
+    let fits = power-fits (start .args .shape) (start .pre .taken) (loop .s) (loop .power) (loop .inv .1) (omega arith) in
+    let each = a-column-each start in
+    record {
+      divisor = record { low = omega arith; high = omega arith };
+      columns = omega (arith, length-take k (loop .row));
+      few = omega (arith, columns-high (start .args .shape) (start .pre .taken));
+    }
 
 turn :
     (c : tie.After-floor-sums Inv-loop μ-loop)
@@ -162,7 +162,7 @@ turn c =
     record {
       powered = loop .inv .1;
       fits = omega arith;
-      few = omega (arith, redundancyClaim (start .args .shape) (start .pre .0) .high);
+      few = omega (arith, redundancyClaim (start .args .shape) (start .pre .taken) .high);
       kept = loop .inv .3;
       cells = loop .inv .4;
       summed = c .floor-sums .ensures;
@@ -186,22 +186,24 @@ add-check-digits-requires c κs =
     let loop = looped (c .before) .loop in
     let rule : List ℕ = take (shape .width) (first filled) in
     let t = turn (c .before) in
-    let pos : 0 < shape .radix = omega (arith, limits shape (start .pre .0) .radixLow) in (
-      ((pos, omega (arith, limits shape (start .pre .0))), omega (arith, lent-length t, t .few)),
-      λ l h. omega (
+    let pos : 0 < shape .radix = omega (arith, limits shape (start .pre .taken) .radixLow) in
+    record {
+      radix = record { low = pos; high = omega (arith, limits shape (start .pre .taken)) };
+      few = omega (arith, lent-length t, t .few);
+      room = λ l h. omega (
         arith,
         added t l (omega (arith, lent-length t)),
         cell-below (shape .radix) (take (shape .width) (start .args .rules .now)) rule (suc (loop .s)) l pos,
-        power-high shape (start .pre .0) (loop .s) (omega arith),
-      ),
-    )
+        power-high shape (start .pre .taken) (loop .s) (omega arith),
+      );
+    }
 
 mul-power : tie.Need-mul-power Inv-loop μ-loop
 mul-power c =
     let sums = summed c in
     let start = begun (looped sums .before) in
     let loop = looped sums .loop in
-    omega (arith, power-fits (start .args .shape) (start .pre .0) (loop .s) (loop .power) (loop .inv .1) (omega arith))
+    omega (arith, power-fits (start .args .shape) (start .pre .taken) (loop .s) (loop .power) (loop .inv .1) (omega arith))
 
 add-s : tie.Need-add-s Inv-loop μ-loop
 add-s c = omega arith
@@ -219,7 +221,7 @@ loop-again c =
     let last = c .before .before .add-check-digits .last .0 in
     let t = turn sums in (
       omega arith,
-      power-next (start .args .shape) (start .pre .0) (loop .s) (loop .power) (loop .inv .1),
+      power-next (start .args .shape) (start .pre .taken) (loop .s) (loop .power) (loop .inv .1),
       omega arith,
       take-put k (length (loop .row) - k) (loop .row) last (t .fits) ∙ loop .inv .3,
       turned t last (c .before .before .add-check-digits .ensures),
@@ -238,10 +240,10 @@ returns c =
     let row = start .args .row .now in
     let rule : take k (first filled) ≡ take k row
     = take-put k (length row - k) row (filled .before .before .fill .last .0) (omega arith) in
-    let cs = take-all k (start .args .rules .now) (omega (arith, a-column-each start)) ∙ start .pre .2 in
+    let cs = take-all k (start .args .rules .now) (omega (arith, a-column-each start)) ∙ start .pre .rules in
     let r : length (first filled) - k ≡ checks (start .args .shape) = omega arith in
     let all : loop .s ≡ start .args .shape .digits = omega arith in
-    all-digits (start .args .shape) (start .pre .0) (take k row) (loop .row) (length-take-le k row (omega arith)) (loop .inv .3 ∙ rule)
+    all-digits (start .args .shape) (start .pre .taken) (take k row) (loop .row) (length-take-le k row (omega arith)) (loop .inv .3 ∙ rule)
     (loop .inv .4 ∙ (λ i. tabulate (r i) (cellAt (start .args .shape .radix) (cs i) (rule i) (all i))))
 
 pub write-digits-spec : {M : Type 1} → statement M

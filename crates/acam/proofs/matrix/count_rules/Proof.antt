@@ -5,6 +5,7 @@ use borrow.Author.Tests.{le-leb, lt-leb, eq-eqb, ne-eqb}
 use Rattle.acam.proofs.matrix.count_rules.Statement.{statement}
 use Rattle.acam.proofs.matrix.count_rules.Tie as tie
 
+-- τ = 2, too light
 returns : tie.Need-returns
 returns c =
     let args = c .before .before .args in
@@ -13,11 +14,13 @@ returns c =
 wide-requires : tie.Need-wide-requires
 wide-requires c κs = search needs
 
+-- τ = 2, of two ones or more
 returns-2 : tie.Need-returns-2
 returns-2 c =
     let args = c .before .before .before .args in
     simp (eq-eqb (args .errors) 2 (c .before .before .if1 .taken), le-leb 2 (args .weight) (c .before .if2 .left)) (c .wide .ensures)
 
+-- τ = 3, too light
 returns-3 : tie.Need-returns-3
 returns-3 c =
     let args = c .before .before .args in
@@ -26,6 +29,7 @@ returns-3 c =
 wide-requires-2 : tie.Need-wide-requires-2
 wide-requires-2 c κs = search needs
 
+-- τ = 3, an odd count
 returns-4 : tie.Need-returns-4
 returns-4 c =
     let args = c .before .before .before .before .args in
@@ -36,6 +40,7 @@ returns-4 c =
     )
     (c .wide2 .ensures)
 
+-- τ = 3, an even count
 returns-5 : tie.Need-returns-5
 returns-5 c =
     let args = c .before .before .before .args in

@@ -181,6 +181,7 @@ sub-if1 c = omega (arith, sized (c .before .before))
 same-length : tie.Need-same-length Inv-loop μ-loop
 same-length c = omega (arith, sized (c .before .before .before))
 
+-- the part is full
 returns : tie.Need-returns Inv-loop μ-loop
 returns c =
     let after = c .before .before .before in
@@ -231,6 +232,7 @@ loop-again c =
 same-length-2 : tie.Need-same-length-2 Inv-loop μ-loop
 same-length-2 c = omega arith
 
+-- all weights are passed
 returns-2 : tie.Need-returns-2 Inv-loop μ-loop
 returns-2 c =
     let at = c .before .loop in

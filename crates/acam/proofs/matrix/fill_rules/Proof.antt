@@ -26,6 +26,7 @@ fill-requires c κs = search needs
 same-length : tie.Need-same-length
 same-length c = search needs
 
+-- τ = 1
 returns : tie.Need-returns
 unfolding ruleColumns
 returns c =
@@ -38,6 +39,7 @@ fill-lightest-requires c κs = search needs
 same-length-2 : tie.Need-same-length-2
 same-length-2 c = search needs
 
+-- τ = 2 or 3
 returns-2 : tie.Need-returns-2
 unfolding ruleColumns
 returns-2 c =
@@ -46,7 +48,7 @@ returns-2 c =
     let list : List ℕ = keep (eligible (args .errors) (args .checks)) columnOrder in
     let k = length (args .part .now) in
     let not-one = ne-eqb (args .errors) 1 (more c .if1 .left) in
-    let enough : length (take k list) ≡ k = simp not-one at (start .pre .1) in
+    let enough : length (take k list) ≡ k = simp not-one at (start .pre .enough) in
     simp not-one (c .before .before .fill-lightest .ensures ∙ filledFrom-enough list (args .part .now) (omega (arith, length-take k list)))
 
 pub fill-rules-spec : {M : Type 1} → statement M

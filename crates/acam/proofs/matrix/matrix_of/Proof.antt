@@ -1,4 +1,4 @@
--- `acam::matrix::matrix_of` meets its contract: the rule columns in front, the check columns behind them, and 0 in what is left.
+-- `acam::matrix::matrix_of` meets its contract: the rule columns in front, then the check columns, and 0 in what is left.
 -- Assumes nothing.
 use mathlib.Core.Path.{_≡_, sym, _∙_, ap}
 use mathlib.Core.List.{List, _++_, append-assoc}
@@ -23,22 +23,22 @@ drop-replicate zero m a = rw sub-zero
 drop-replicate (suc n) zero a = rw zero-sub
 drop-replicate (suc n) (suc m) a = rw suc-sub-suc (drop-replicate n m a)
 
--- two lists laid one behind the other over a third
+-- two lists laid one after the other over a third
 laid : (xs ys over : List ℕ) (k r : ℕ) → length xs ≡ k → putMid k (k + r - k) (xs ++ drop k over) ys ≡ xs ++ ys ++ drop (k + r) over
 laid xs ys over k r e =
     rw (add-sub-cancel-left k r, take-at xs (drop k over) k e, drop-at xs (drop k over) k e, drop-drop r k over, append-assoc)
 
 add-end : tie.Need-add-end
-add-end c = omega (arith, fits (c .args .shape) (c .pre .0) (c .args .checks) (c .pre .1))
+add-end c = omega (arith, fits (c .args .shape) (c .pre .taken) (c .args .checks) (c .pre .checks))
 
 array-borrow-prefix-matrix : tie.Need-array-borrow-prefix-matrix
-array-borrow-prefix-matrix c = omega (arith, fits (c .args .shape) (c .pre .0) (c .args .checks) (c .pre .1))
+array-borrow-prefix-matrix c = omega (arith, fits (c .args .shape) (c .pre .taken) (c .args .checks) (c .pre .checks))
 
 slice-aggregate-fill-rules : tie.Need-slice-aggregate-fill-rules
-slice-aggregate-fill-rules c = sym (front (c .before .args .shape) (c .before .pre .0) (c .before .args .checks) (c .before .pre .1))
+slice-aggregate-fill-rules c = sym (front (c .before .args .shape) (c .before .pre .taken) (c .before .args .checks) (c .before .pre .checks))
 
 fill-rules-requires : tie.Need-fill-rules-requires
-fill-rules-requires c κs = rules-ask (c .before .args .shape) (c .before .pre .0) (c .before .args .checks) (c .before .pre .1)
+fill-rules-requires c κs = rules-ask (c .before .args .shape) (c .before .pre .taken) (c .before .args .checks) (c .before .pre .checks)
 
 sub-fill-checks : tie.Need-sub-fill-checks
 sub-fill-checks c = search needs
@@ -56,8 +56,8 @@ part-matrix-end c =
       length-append (c .before .fill-rules .last .0) (drop k zeros),
       length-drop k zeros,
       c .before .fill-rules .kept .0,
-      front (args .shape) (pre .0) (args .checks) (pre .1),
-      fits (args .shape) (pre .0) (args .checks) (pre .1),
+      front (args .shape) (pre .taken) (args .checks) (pre .checks),
+      fits (args .shape) (pre .taken) (args .checks) (pre .checks),
     )
 
 fill-checks-requires : tie.Need-fill-checks-requires
@@ -68,7 +68,7 @@ fill-checks-requires c κs =
     omega (
       arith,
       length-take (k + args .checks - k) (drop k (c .before .before .fill-rules .last .0 ++ drop k zeros)),
-      redundancyClaim (args .shape) (pre .0) .high,
+      redundancyClaim (args .shape) (pre .taken) .high,
     )
 
 returns : tie.Need-returns
@@ -81,14 +81,14 @@ returns c =
     let k = s .width in
     let rules = filled .fill-rules in
     let check = c .before .fill-checks in
-    let first : rules .last .0 ≡ ruleColumns (s .errors) (checks s) k = rules .ensures ∙ rules-fill s (start .pre .0) r (start .pre .1) in
+    let first : rules .last .0 ≡ ruleColumns (s .errors) (checks s) k = rules .ensures ∙ rules-fill s (start .pre .taken) r (start .pre .checks) in
     let count : length (take (k + r - k) (drop k (rules .last .0 ++ drop k zeros))) ≡ checks s
-    = sym (c .before .before .matrix3 .given .1) ∙ add-sub-cancel-left k r ∙ start .pre .1 in
-    let behind : check .last .0 ≡ checkColumns (checks s) = check .ensures ∙ ap checkColumns count in
+    = sym (c .before .before .matrix3 .given .1) ∙ add-sub-cancel-left k r ∙ start .pre .checks in
+    let second : check .last .0 ≡ checkColumns (checks s) = check .ensures ∙ ap checkColumns count in
     let rest : drop (k + r) zeros ≡ replicate (255 - (k + checks s)) 0
-    = drop-replicate (k + r) 255 0 ∙ ap (λ n. replicate (255 - (k + n)) 0) (start .pre .1) in
-    laid (rules .last .0) (check .last .0) zeros k r (ap length first ∙ rules-sized s (start .pre .0))
-    ∙ (λ i. first i ++ behind i ++ rest i)
+    = drop-replicate (k + r) 255 0 ∙ ap (λ n. replicate (255 - (k + n)) 0) (start .pre .checks) in
+    laid (rules .last .0) (check .last .0) zeros k r (ap length first ∙ rules-sized s (start .pre .taken))
+    ∙ (λ i. first i ++ second i ++ rest i)
 
 pub matrix-of-spec : {M : Type 1} → statement M
 matrix-of-spec =

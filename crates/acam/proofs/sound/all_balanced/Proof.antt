@@ -40,6 +40,7 @@ array-read-missing c = omega arith
 missing-requires : tie.Need-missing-requires Inv-loop μ-loop
 missing-requires c κs = c .before .before .pre .1
 
+-- a sum is not 0
 returns : tie.Need-returns Inv-loop μ-loop
 returns c =
     let args = looped (c .before) .before .args in
@@ -66,6 +67,7 @@ loop-again c =
           ∙ and-eq-true-iff (everyTo (loop .l) (balanced (args .t1) (args .radix))) _ .1 (loop .inv .1, eq-eqb _ 0 zero),
     )
 
+-- all are 0
 returns-2 : tie.Need-returns-2 Inv-loop μ-loop
 returns-2 c =
     let args = c .before .before .args in

@@ -65,7 +65,7 @@ balance :
 balance start t ℓ =
     let args = start .args in
     ap (λ x. x % args .shape .radix)
-    (row-sum (args .shape) (start .pre .0 .0) (args .matrix .now) (args .row .now) (start .pre .1 .0) (start .pre .1 .1) t ℓ)
+    (row-sum (args .shape) (start .pre .0 .taken) (args .matrix .now) (args .row .now) (start .pre .0 .cells) (start .pre .0 .matrix) t ℓ)
 
 loop-holds : tie.Need-loop-holds Inv-loop μ-loop
 loop-holds c = (omega arith, sym (pow-zero (c .before .args .shape .radix)), λ t h. absurd (omega arith))
@@ -74,17 +74,20 @@ floor-sums-requires : tie.Need-floor-sums-requires Inv-loop μ-loop
 floor-sums-requires c κs =
     let start = begun (c .before .before) in
     let loop = c .before .before .loop in
-    let sized : length (start .args .matrix .now) ≡ 255 = ap length (start .pre .1 .1) ∙ array-sized (start .args .shape) (start .pre .0 .0) in
-    omega (
-      arith,
-      power-fits (start .args .shape) (start .pre .0 .0) (loop .s) (loop .power) (loop .inv .1) (omega arith),
-      columns-high (start .args .shape) (start .pre .0 .0),
-    )
+    let sized : length (start .args .matrix .now) ≡ 255 = ap length (start .pre .0 .matrix) ∙ array-sized (start .args .shape) (start .pre .0 .taken) in
+    let fits = power-fits (start .args .shape) (start .pre .0 .taken) (loop .s) (loop .power) (loop .inv .1) (omega arith) in
+    record {
+      divisor = record { low = omega arith; high = omega arith };
+      columns = omega (arith, columns-high (start .args .shape) (start .pre .0 .taken));
+      few = omega arith;
+    }
 
 all-balanced-requires : tie.Need-all-balanced-requires Inv-loop μ-loop
 all-balanced-requires c κs =
     let start = begun (looped c) in
-    omega (arith, limits (start .args .shape) (start .pre .0 .0), redundancyClaim (start .args .shape) (start .pre .0 .0))
+    let taken = start .pre .0 .taken in
+    let few = limits (start .args .shape) taken in
+    (omega (arith, redundancyClaim (start .args .shape) taken), record { low = omega arith; high = omega arith })
 
 -- the sums that are tested are those of digit s
 tested :
@@ -98,8 +101,9 @@ tested c ℓ h =
     let args = start .args in
     let loop = looped c .loop in
     sum-at (args .shape .radix) (loop .s) (loop .power) (take (length (args .row .now)) (args .matrix .now)) (args .row .now) (c .floor-sums .result)
-    (loop .inv .1) (c .floor-sums .ensures) ℓ (omega (arith, redundancyClaim (args .shape) (start .pre .0 .0) .high))
+    (loop .inv .1) (c .floor-sums .ensures) ℓ (omega (arith, redundancyClaim (args .shape) (start .pre .0 .taken) .high))
 
+-- a digit fails
 returns : tie.Need-returns Inv-loop μ-loop
 returns c =
     let turn = looped (c .before .before) in
@@ -121,7 +125,7 @@ mul-power c =
     let turn = looped (c .before .before) in
     let start = begun turn in
     let loop = turn .loop in
-    omega (arith, power-fits (start .args .shape) (start .pre .0 .0) (loop .s) (loop .power) (loop .inv .1) (omega arith))
+    omega (arith, power-fits (start .args .shape) (start .pre .0 .taken) (loop .s) (loop .power) (loop .inv .1) (omega arith))
 
 add-s : tie.Need-add-s Inv-loop μ-loop
 add-s c = omega arith
@@ -137,20 +141,21 @@ loop-again c =
     let loop = turn .loop in
     let passes = sym (c .before .all-balanced .ensures) ∙ not-false _ (c .if1 .left) in (
       omega arith,
-      power-next (args .shape) (start .pre .0 .0) (loop .s) (loop .power) (loop .inv .1),
+      power-next (args .shape) (start .pre .0 .taken) (loop .s) (loop .power) (loop .inv .1),
       below-more (Balanced (args .shape .radix) (args .checks) (args .matrix .now) (args .row .now)) (loop .s) (loop .inv .2)
           (λ ℓ h. sym (tested (c .before .before) ℓ h)
           ∙ eqb-true _ 0 (everyTo-at (args .checks) (λ l. eqb (getD (c .before .before .floor-sums .result) l 0 % args .shape .radix) 0) passes ℓ h)),
     )
 
+-- all digits pass
 returns-2 : tie.Need-returns-2 Inv-loop μ-loop
 returns-2 c =
     let start = begun (c .before) in
     let args = start .args in
     let loop = c .before .loop in
     sym (codeword-passes (args .shape) (args .row .now) (record {
-      sized = start .pre .1 .0;
-      below = λ j h. ltb-true _ _ (every-at (λ v. ltb v (levels (args .shape))) (args .row .now) 0 (start .pre .0 .2) j (omega arith));
+      sized = start .pre .0 .cells;
+      below = λ j h. ltb-true _ _ (every-at (λ v. ltb v (levels (args .shape))) (args .row .now) 0 (start .pre .1) j (omega arith));
       balanced = λ ℓ t h k.
           sym (balance start t ℓ)
           ∙ loop .inv .2 t (omega arith) ℓ (omega arith);

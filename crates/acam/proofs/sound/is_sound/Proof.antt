@@ -11,19 +11,21 @@ use Rattle.acam.proofs.sound.is_sound.Tie as tie
 all-below-requires : tie.Need-all-below-requires
 all-below-requires c κs = search needs
 
+-- a level of q or more
 returns : tie.Need-returns
 unfolding isCodeword
 returns c =
     let start = c .before .before .before in
-    let fails = levels-tested (start .args .shape) (start .pre .0 .2) (start .args .row .now) (c .before .all-below .ensures) ∙ not-true _ (c .if1 .taken) in
+    let fails = levels-tested (start .args .shape) (start .pre .1) (start .args .row .now) (c .before .all-below .ensures) ∙ not-true _ (c .if1 .taken) in
     simp (fails, and-false)
 
 is-balanced-requires : tie.Need-is-balanced-requires
 is-balanced-requires c κs =
     let start = c .before .before .before in
-    let low = levels-tested (start .args .shape) (start .pre .0 .2) (start .args .row .now) (c .before .all-below .ensures) ∙ not-false _ (c .if1 .left) in
-    ((start .pre .0 .0, start .pre .0 .1, low), start .pre .1)
+    let low = levels-tested (start .args .shape) (start .pre .1) (start .args .row .now) (c .before .all-below .ensures) ∙ not-false _ (c .if1 .left) in
+    (start .pre .0, low)
 
+-- all levels below q
 returns-2 : tie.Need-returns-2
 returns-2 c = c .is-balanced .ensures
 

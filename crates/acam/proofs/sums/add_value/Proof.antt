@@ -55,7 +55,7 @@ add-sums c =
       arith,
       bit-times (loop .rest) (args .value),
       unwritten (added (args .sums .now) (args .column) (args .value)) (args .sums .now) (loop .sums) (loop .l) (loop .inv .1),
-      c .before .before .before .pre .1 (loop .l) (omega arith),
+      c .before .before .before .pre .room (loop .l) (omega arith),
     )
 
 mul-sums-3 : tie.Need-mul-sums-3 Inv-loop μ-loop

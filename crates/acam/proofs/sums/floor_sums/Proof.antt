@@ -80,7 +80,10 @@ cast-quotient c = omega (arith, c .shared-slice-known3 .given (c .before .before
 quotient-requires : tie.Need-quotient-requires Inv-loop μ-loop
 quotient-requires c κs =
     let turn = c .before .before in
-    omega (arith, c .shared-slice-known3 .given (turn .loop .j), div-le-self 65536 (begun turn .args .power))
+    record {
+      byte = omega (arith, c .shared-slice-known3 .given (turn .loop .j));
+      most = omega (arith, div-le-self 65536 (begun turn .args .power));
+    }
 
 -- what the product makes of a cell
 floor-is :
@@ -109,15 +112,16 @@ add-value-requires : tie.Need-add-value-requires Inv-loop μ-loop
 add-value-requires c κs =
     let at = c .before .before in
     let args = begun (looped at) .args in
-    let loop = looped at .loop in (
-      ap length (loop .inv .1),
-      λ l h. omega (
+    let loop = looped at .loop in
+    record {
+      sized = ap length (loop .inv .1);
+      room = λ l h. omega (
         arith,
         floor-small at,
         ap (λ xs. getD xs l 0) (loop .inv .1),
         sums-high (args .power) (args .matrix .now) (args .cells .now) (loop .j) (bytes-are at) l h,
-      ),
-    )
+      );
+    }
 
 add-j : tie.Need-add-j Inv-loop μ-loop
 add-j c = omega arith

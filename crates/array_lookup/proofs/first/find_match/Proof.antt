@@ -89,6 +89,9 @@ looped c = c .before .before .before .before
 abbrev turn : tie.After-answers Inv-loop μ-loop Inv-rows μ-rows → tie.In-rows Inv-loop μ-loop Inv-rows μ-rows
 turn c = looped c .before .before .before
 
+abbrev read : tie.After-shared-slice-known5 Inv-loop μ-loop Inv-rows μ-rows → tie.In-rows Inv-loop μ-loop Inv-rows μ-rows
+read c = c .before .before .before .before .before
+
 abbrev begun : tie.At-rows Inv-loop μ-loop Inv-rows μ-rows → tie.Start Inv-loop μ-loop Inv-rows μ-rows
 begun c = c .before .before .before .before
 
@@ -148,10 +151,10 @@ shared-slice-read-answers : tie.Need-shared-slice-read-answers Inv-loop μ-loop 
 shared-slice-read-answers c = omega arith
 
 add-answers : tie.Need-add-answers Inv-loop μ-loop Inv-rows μ-rows
-add-answers c = omega (arith, room (c .before .before .before .before .before))
+add-answers c = omega (arith, room (read c))
 
 shared-slice-read-answers-2 : tie.Need-shared-slice-read-answers-2 Inv-loop μ-loop Inv-rows μ-rows
-shared-slice-read-answers-2 c = omega (arith, room (c .before .before .before .before .before .before))
+shared-slice-read-answers-2 c = omega (arith, room (read (c .before)))
 
 answers-requires : tie.Need-answers-requires Inv-loop μ-loop Inv-rows μ-rows
 answers-requires c κs = search needs
@@ -193,6 +196,7 @@ loop-again c =
     (rw getD-drop (sym (c .before .answers .ensures) ∙ not-false _ (c .if2 .left))) in
     (loop .inv .0, omega arith, sym yes ∙ loop .inv .2)
 
+-- a row matches
 returns : tie.Need-returns Inv-loop μ-loop Inv-rows μ-rows
 returns c =
     let sounds = c .before .before in
@@ -206,6 +210,7 @@ returns c =
     ∙ found (args .inputs .now) (args .cells .now) (args .lines .now) (args .columns) (args .rows) (outer .i) (omega arith) (outer .inv .1)
     (match-is (args .inputs .now) (args .cells .now) (args .lines .now) (args .columns) (outer .i) (sounds .if1 .left) true (sym (loop .inv .2) ∙ rw all yes)))
 
+-- no row matches
 returns-2 : tie.Need-returns-2 Inv-loop μ-loop Inv-rows μ-rows
 returns-2 c =
     let args = begun (c .before) .args in

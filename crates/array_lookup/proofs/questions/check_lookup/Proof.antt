@@ -1,119 +1,70 @@
--- `array_lookup::questions::check_lookup` meets its contract: what `check_cells` asks, then 6 on the match bytes and the inputs, then 8.
--- Assumes nothing.
-use mathlib.Core.Path.{refl, ap, _∙_}
-use mathlib.Core.List.{List, []}
+-- `array_lookup::questions::check_lookup` meets its contract: 6 on cells, lines, inputs and match bytes, then 8. Assumes nothing.
+use mathlib.Core.Path.{refl, ap}
+use mathlib.Core.List.{[], _∷_}
 use lib.ListN.{length}
 use borrow.Author.Needs.{needs}
-use borrow.Author.Tests.{eq-eqb, ne-eqb, not-true, not-false}
-use Rattle.parity.specs.Questions.{Question}
-use Rattle.shape.proofs.Refusals.{told, Passes, passes, then-refused, then-number, then-sizes, levels-tested}
-use Rattle.array_questions.specs.Questions.{cellsQuestions}
-use Rattle.array_lookup.specs.Lookups.{lookupArguments}
+use Rattle.parity.specs.Shape.{levels}
+use Rattle.parity.specs.Questions.{shapeQuestions, lengthsQuestion, inputsQuestion}
+use Rattle.shape.proofs.Refusals.{shape-asked, sizes-known, ask}
+use Rattle.shape.proofs.Asking.{both-asked}
+use Rattle.array_lookup.specs.Lookups.{arrayQuestions}
 use Rattle.array_lookup.proofs.questions.check_lookup.Statement.{statement}
 use Rattle.array_lookup.proofs.questions.check_lookup.Tie as tie
 
--- the questions on the cells, and those behind them
-abbrev first : tie.Start → List Question
-first c = cellsQuestions (c .args .shape) (c .args .cells) []
+-- the places of the sizes and of the call, each from one that follows
+abbrev sized : tie.After-check → tie.After-sizes
+sized c = c .before .before .before .before
 
-abbrev more : tie.Start → List Question
-more c = lookupArguments (c .args .shape) (c .args .lines) (c .args .matches) (c .args .inputs .now)
+abbrev begun : tie.After-check-shape → tie.Start
+begun c = c .before .before
 
--- the places of the call and of the sizes, each from one that follows
-abbrev begun : tie.After-sizes → tie.Start
-begun c = c .before .before .before .before
+check-shape-requires : tie.Need-check-shape-requires
+check-shape-requires c κs = search needs
 
-abbrev sized : tie.After-all-below → tie.After-sizes
-sized c = c .before .before .before .before .before
+sizes-requires : tie.Need-sizes-requires
+sizes-requires c κs = search needs
 
-cells-taken : (c : tie.After-sizes) → Passes (first (begun c)) (begun c .args .shape) (c .sizes .given .0 .0)
-cells-taken c = passes _ _ _ (told (c .before .before .check-cells .ensures) (c .sizes .given .1))
+slice-aggregate-same-lengths : tie.Need-slice-aggregate-same-lengths
+slice-aggregate-same-lengths c = search needs
 
-check-cells-requires : tie.Need-check-cells-requires
-check-cells-requires c κs = search needs
+slice-aggregate-same-lengths-2 : tie.Need-slice-aggregate-same-lengths-2
+slice-aggregate-same-lengths-2 c = search needs
 
-enum-known-number : tie.Need-enum-known-number
-enum-known-number c = search needs
+same-lengths-requires : tie.Need-same-lengths-requires
+same-lengths-requires c κs = search needs
 
-enum-known-sizes : tie.Need-enum-known-sizes
-enum-known-sizes c = search needs
+check-requires : tie.Need-check-requires
+check-requires c κs = search needs
 
+check-levels-requires : tie.Need-check-levels-requires
+check-levels-requires c κs = search needs
+
+-- all asked
 returns : tie.Need-returns
 returns c =
-    let sizes = c .before .before in
-    let start = begun sizes in
-    let s = start .args .shape in
-    then-number (first start) (more start) s refl (cells-taken sizes .none) 5 (rw (ne-eqb (start .args .matches) (s .rows) (c .if1 .taken)) refl)
-
-returns-2 : tie.Need-returns-2
-returns-2 c =
-    let sizes = c .before .before .before in
-    let start = begun sizes in
-    let s = start .args .shape in
-    then-number (first start) (more start) s refl (cells-taken sizes .none) 5
-    (rw (eq-eqb (start .args .matches) (s .rows) (c .before .if1 .left), ne-eqb (start .args .lines) (s .rows) (c .if2 .taken)) refl)
-
-returns-3 : tie.Need-returns-3
-returns-3 c =
-    let sizes = c .before .before .before .before in
-    let start = begun sizes in
-    let s = start .args .shape in
-    then-number (first start) (more start) s refl (cells-taken sizes .none) 5
-    (rw (
-      eq-eqb (start .args .matches) (s .rows) (c .before .before .if1 .left),
-      eq-eqb (start .args .lines) (s .rows) (c .before .if2 .left),
-      ne-eqb (length (start .args .inputs .now)) (s .width) (c .if3 .taken),
-    ) refl)
-
-all-below-requires : tie.Need-all-below-requires
-all-below-requires c κs = search needs
-
-returns-4 : tie.Need-returns-4
-returns-4 c =
-    let sizes = sized (c .before) in
-    let start = begun sizes in
-    let s = start .args .shape in
-    let p = cells-taken sizes in
-    then-number (first start) (more start) s refl (p .none) 7
-    (rw (
-      eq-eqb (start .args .matches) (s .rows) (c .before .before .before .before .if1 .left),
-      eq-eqb (start .args .lines) (s .rows) (c .before .before .before .if2 .left),
-      eq-eqb (length (start .args .inputs .now)) (s .width) (c .before .before .if3 .left),
-      levels-tested s (ap (λ z. z .levels) (p .sizes)) (start .args .inputs .now) (c .before .all-below .ensures) ∙ not-true _ (c .if4 .taken),
-    ) refl)
-
-returns-5 : tie.Need-returns-5
-returns-5 c =
-    let check = c .before .before .before in
-    let start = check .before .before in
-    let number = c .before .number .given in
-    then-refused (first start) (more start) (start .args .shape) (number .0 .0) (told (check .check-cells .ensures) (number .1))
-
-returns-6 : tie.Need-returns-6
-returns-6 c =
-    let sizes = sized (c .before) in
-    let start = begun sizes in
-    let s = start .args .shape in
-    let p = cells-taken sizes in
-    then-sizes (first start) (more start) s refl p
-    (rw (
-      eq-eqb (start .args .matches) (s .rows) (c .before .before .before .before .if1 .left),
-      eq-eqb (start .args .lines) (s .rows) (c .before .before .before .if2 .left),
-      eq-eqb (length (start .args .inputs .now)) (s .width) (c .before .before .if3 .left),
-      levels-tested s (ap (λ z. z .levels) (p .sizes)) (start .args .inputs .now) (c .before .all-below .ensures) ∙ not-false _ (c .if4 .left),
-    ) refl)
+    let lengths = c .before in
+    let sizes = sized lengths in
+    let shape = sizes .before in
+    let args = begun shape .args in
+    let s = args .shape in
+    let inputs = args .inputs .now in
+    let known = sizes-known s (shape .check-shape .result) (sizes .sizes .result) [] (shape .check-shape .ensures) (sizes .sizes .ensures) in
+    ask (arrayQuestions s (args .cells) (args .lines) (lengthsQuestion (length inputs ∷ args .matches ∷ []) (s .width ∷ s .rows ∷ []) ∷ [])) s (lengths .check .result) (c .check-levels .result) _
+    (inputsQuestion (levels s) inputs) refl
+    (both-asked s (shapeQuestions s) refl (shape .check-shape .result) (lengths .check .result) (sizes .sizes .result) _
+    (shape-asked s (shape .check-shape .result) (shape .check-shape .ensures)) known (lengths .check .ensures)
+    (args .cells ∷ args .lines ∷ []) (λ z. z .cells ∷ s .rows ∷ []) (length inputs ∷ args .matches ∷ []) (λ z. s .width ∷ s .rows ∷ []) refl (lengths .before .same-lengths .ensures))
+    (c .check-levels .ensures) (λ p. ap (λ z. inputsQuestion (z .levels) inputs) (p .sizes))
 
 pub check-lookup-spec : {M : Type 1} → statement M
 check-lookup-spec =
     tie.close
     (tie.spec
-    check-cells-requires
-    enum-known-number
-    enum-known-sizes
-    returns
-    returns-2
-    returns-3
-    all-below-requires
-    returns-4
-    returns-5
-    returns-6)
+    check-shape-requires
+    sizes-requires
+    slice-aggregate-same-lengths
+    slice-aggregate-same-lengths-2
+    same-lengths-requires
+    check-requires
+    check-levels-requires
+    returns)

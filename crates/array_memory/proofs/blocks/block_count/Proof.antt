@@ -11,9 +11,13 @@ add-result c = search needs
 sub-result : tie.Need-sub-result
 sub-result c = search needs
 
+add-result-2 : tie.Need-add-result-2
+add-result-2 c = omega arith
+
+-- whole and short blocks
 returns : tie.Need-returns
 unfolding blocksOf
 returns c = omega arith
 
 pub block-count-spec : {M : Type 1} → statement M
-block-count-spec = tie.close (tie.spec add-result sub-result returns)
+block-count-spec = tie.close (tie.spec add-result sub-result add-result-2 returns)

@@ -1,17 +1,12 @@
--- `cycle::Cycle::clear` meets its contract: `check_shape` and `check_memory` ask, and all buffers are filled with 0. Assumes nothing.
-use mathlib.Core.Path.{_≡_, refl, sym, ap, _∙_}
+-- `cycle::Cycle::clear` meets its contract: `check_clear` asks, and `clear_lent` fills every buffer with 0. Assumes nothing.
 use mathlib.Core.List.{List, []}
-use Prim.Native.Nat.{ℕ}
-use lib.ListN.{replicate}
 use borrow.Author.Needs.{needs}
-use Rattle.parity.specs.Questions.{Question, firstNo, shapeQuestions, shapeRefusal}
-use Rattle.shape.specs.Shapes.{checkedSays, sizesIf}
-use Rattle.shape.proofs.Refusals.{told, fails, passes, answer-tells, answer-then}
-use Rattle.array_memory.specs.Memory.{Memory, withAll, noMemory, memoryQuestions, Sized}
-use Rattle.array_memory.proofs.Asked.{memory-taken}
-use Rattle.cycle.specs.Record.{idle}
-use Rattle.cycle.specs.Calls.{zeroRows, cleared, clearQuestions, clearCall}
-use Rattle.cycle.proofs.Given.{gives-refusal, gives-done}
+use Rattle.parity.specs.Questions.{Question}
+use Rattle.shape.proofs.Refusals.{door-passed, door-refused}
+use Rattle.array_memory.specs.Lengths.{allLengths}
+use Rattle.array_memory.specs.Memory.{Memory, withAll, noMemory}
+use Rattle.cycle.specs.Calls.{clearQuestions, clearCall}
+use Rattle.cycle.proofs.Given.{gives-refusal, act-done}
 use Rattle.cycle.proofs.Cycle.clear.Statement.{statement}
 use Rattle.cycle.proofs.Cycle.clear.Tie as tie
 
@@ -20,48 +15,32 @@ abbrev lent : tie.Start → Memory → Memory
 lent c mem = withAll (c .args .cells .now) (c .args .lines .now) (c .args .counters .now) (c .args .flags .now) (c .args .totals .now) mem
 
 abbrev questions : tie.Start → List Question
-questions c = clearQuestions (c .args .shape) (lent c noMemory)
+questions c = clearQuestions (c .args .shape) (allLengths (lent c noMemory))
 
--- the call's place, from those where the questions are asked and where they are passed
-abbrev entry : tie.After-check-memory → tie.Start
-entry c = c .before .before .before .before .before .before .before
+-- the places of the start, of the answer and of the clearing, each from one that follows
+abbrev known : tie.After-slice-known4 → tie.Start
+known c = c .before .before .before .before
 
-abbrev begun : tie.After-enum-told → tie.Start
-begun c = entry (c .before .before)
+abbrev begun : tie.After-check-clear → tie.Start
+begun c = known (c .before .before)
 
--- the places of the fills, from the end
-abbrev reset : tie.After-done → tie.After-reset-rows
-reset c = c .before .before .before .before .before .before .before
+abbrev lending : tie.After-clear-lent-arg5 → tie.After-clear-lent-arg
+lending c = c .before .before .before .before
 
-abbrev lined : tie.After-reset-rows → tie.After-fill2
-lined c = c .before .before .before .before .before .before
+abbrev sized : tie.After-clear-lent-arg5 → tie.After-sizes
+sized c = lending c .before .before
 
-abbrev filled : tie.After-fill2 → tie.After-fill
-filled c = c .before .before .before .before
+abbrev totalled : tie.After-slice-known10 → tie.After-slice-known8
+totalled c = c .before .before .before .before
 
--- what is answered to all of them
-answered : (c : tie.After-check-memory) → checkedSays (c .check-memory .result) ≡ sizesIf (firstNo (questions (entry c))) (entry c .args .shape)
-unfolding shapeRefusal
-answered c =
-    let start = entry c in
-    let s = start .args .shape in
-    let shape = c .before in
-    c .check-memory .ensures
-    ∙ answer-then (shapeQuestions s) (memoryQuestions s (lent start noMemory)) s (shape .check-shape .result) refl (shape .check-shape .ensures)
+abbrev flagged : tie.After-slice-known8 → tie.After-slice-known6
+flagged c = c .before .before .before .before
 
-module _ (c : tie.After-enum-told) where
-  none : firstNo (questions (begun c)) ≡ 0
-  none = passes (questions (begun c)) (begun c .args .shape) _ (told (answered (c .before .before)) (c .enum-told .given .1)) .none
+abbrev cleared : tie.After-slice-known10 → tie.After-clear-lent
+cleared c = flagged (totalled c) .before .before
 
-  sized : Sized (begun c .args .shape) (lent (begun c) noMemory)
-  sized = memory-taken (begun c .args .shape) (lent (begun c) noMemory) [] none .0 .sized
-
-check-shape-requires : tie.Need-check-shape-requires
-check-shape-requires c κs = search needs
-
-check-memory-requires : tie.Need-check-memory-requires
-unfolding shapeRefusal
-check-memory-requires c κs = answer-tells _ (c .check-shape .result) [] (c .check-shape .ensures)
+check-clear-requires : tie.Need-check-clear-requires
+check-clear-requires c κs = search needs
 
 enum-known-number : tie.Need-enum-known-number
 enum-known-number c = search needs
@@ -69,29 +48,30 @@ enum-known-number c = search needs
 refused-requires : tie.Need-refused-requires
 refused-requires c κs = search needs
 
-enum-told : tie.Need-enum-told
-enum-told c = search needs
+enum-known-sizes : tie.Need-enum-known-sizes
+enum-known-sizes c = search needs
 
-fill-requires : tie.Need-fill-requires
-fill-requires c κs = search needs
-
-fill-requires-2 : tie.Need-fill-requires-2
-fill-requires-2 c κs = search needs
-
-reset-rows-requires : tie.Need-reset-rows-requires
-reset-rows-requires c κs = search needs
+clear-lent-requires : tie.Need-clear-lent-requires
+clear-lent-requires c κs =
+    let sizes = sized c in
+    let asked = sizes .before .before in
+    let start = begun asked in
+    door-passed (questions start) (start .args .shape) (asked .check-clear .result) (asked .check-clear .ensures) (sizes .sizes .given .1)
 
 done-requires : tie.Need-done-requires
 done-requires c κs = search needs
 
+-- refused
 returns : tie.Need-returns
 unfolding clearCall
 returns c =
-    let asked = c .before .before .before .before in
-    let start = entry asked in
-    let number = c .before .before .number .given in
+    let told = c .before .before in
+    let asked = told .before .before in
+    let start = begun asked in
+    let number = told .number .given in
     λ mem. gives-refusal (questions start) [] (lent start mem) (start .args .self) _ _ (number .0 .0)
-    (fails (questions start) (start .args .shape) (number .0 .0) (told (answered asked) (number .1))) (c .refused .ensures)
+    (door-refused (questions start) (start .args .shape) (asked .check-clear .result) (asked .check-clear .ensures) (number .0 .0) (number .1))
+    (c .refused .ensures)
 
 same-length : tie.Need-same-length
 same-length c = search needs
@@ -108,36 +88,22 @@ same-length-4 c = search needs
 same-length-5 : tie.Need-same-length-5
 same-length-5 c = search needs
 
+-- the fresh array
 returns-2 : tie.Need-returns-2
-unfolding clearCall cleared zeroRows
 returns-2 c =
-    let rows = reset c in
-    let lines-filled = lined rows in
-    let cells-filled = filled lines-filled in
-    let told = cells-filled .before .before in
-    let start = begun told in
-    let z = sized told in
-    let zeros : ℕ → List ℕ = λ n. replicate n 0 in
-    let cells = cells-filled .fill .ensures ∙ ap zeros (z .cells) in
-    let lines = lines-filled .fill2 .ensures ∙ ap zeros (z .lines) in
-    let counters = rows .reset-rows .ensures .0 ∙ ap zeros (z .rows .counters) in
-    let flags = rows .reset-rows .ensures .1 .0 ∙ ap zeros (z .rows .flags) in
-    let totals = rows .reset-rows .ensures .1 .1 ∙ ap zeros (z .rows .totals) in
-    λ mem. gives-done (questions start) [] (lent start mem) (start .args .self) _ [] [] _ _ idle idle (none told) (c .done .ensures) refl
-    (sym (λ i. withAll (cells i) (lines i) (counters i) (flags i) (totals i) mem)) refl
+    let made = cleared (c .before) in
+    let start = begun (sized (made .before) .before .before) in
+    λ mem. act-done (made .clear-lent .ensures mem (start .args .self)) (c .done .ensures)
 
 pub clear-spec : {M : Type 1} → statement M
 clear-spec =
     tie.close
     (tie.spec
-    check-shape-requires
-    check-memory-requires
+    check-clear-requires
     enum-known-number
     refused-requires
-    enum-told
-    fill-requires
-    fill-requires-2
-    reset-rows-requires
+    enum-known-sizes
+    clear-lent-requires
     done-requires
     returns
     same-length

@@ -1,44 +1,40 @@
--- `cycle::Cycle::commit` meets its contract: `check_commit` asks, and `put_row` writes the row. Assumes nothing.
+-- `cycle::Cycle::commit` meets its contract: `check_commit` asks, `put_row` writes the row, and the record is idle. Assumes nothing.
 use mathlib.Core.Path.{_≡_, refl, sym, ap, _∙_}
 use mathlib.Core.List.{List, []}
 use lib.ListN.{length}
 use borrow.Author.Needs.{needs}
-use Rattle.parity.specs.Shape.{columns}
-use Rattle.parity.specs.Questions.{Question, firstNo}
-use Rattle.shape.proofs.Refusals.{told, fails, Passes, passes}
-use Rattle.array_memory.specs.Memory.{withCells}
+use Rattle.parity.specs.Questions.{Question}
+use Rattle.shape.specs.Shapes.{Passed}
+use Rattle.shape.proofs.Refusals.{door-passed, door-refused}
+use Rattle.array_memory.specs.Memory.{Memory, withCells}
 use Rattle.array_questions.specs.Questions.{cellsQuestions, commitArguments}
-use Rattle.array_questions.proofs.Asked.{CellsTaken, cells-parts, Commits, commit-reads, row-within}
-use Rattle.array_memory.specs.Geometry.{withRow}
 use Rattle.array.specs.Calls.{rowWritten}
-use Rattle.cycle.specs.Record.{idle}
 use Rattle.cycle.specs.Calls.{commitCall}
+use Rattle.cycle.specs.Record.{idle}
 use Rattle.cycle.proofs.Given.{gives-refusal, gives-done}
 use Rattle.cycle.proofs.Cycle.commit.Statement.{statement}
 use Rattle.cycle.proofs.Cycle.commit.Tie as tie
 
-abbrev own : tie.Start → List Question
-own c = commitArguments (c .args .shape) (c .args .row) (c .args .finished .now)
-
 abbrev questions : tie.Start → List Question
-questions c = cellsQuestions (c .args .shape) (length (c .args .cells .now)) (own c)
+questions c = cellsQuestions (c .args .shape) (length (c .args .cells .now)) (commitArguments (c .args .shape) (c .args .row) (c .args .finished .now))
 
--- the call's place, from that where the questions are passed
-abbrev begun : tie.After-sizes → tie.Start
-begun c = c .before .before .before .before .before
+-- the places of the start, of the sizes and of the writing, each from one that follows
+abbrev begun : tie.After-check-commit → tie.Start
+begun c = c .before .before .before
 
-module _ (c : tie.After-sizes) where
-  asked : Passes (questions (begun c)) (begun c .args .shape) (c .sizes .given .0 .0)
-  asked = passes _ _ _ (told (c .before .before .check-commit .ensures) (c .sizes .given .1))
+abbrev sized : tie.After-put-row-arg → tie.After-sizes
+sized c = c .before .before
 
-  parts : CellsTaken (begun c .args .shape) (length (begun c .args .cells .now)) × (firstNo (own (begun c)) ≡ 0)
-  parts = let args = begun c .args in cells-parts (args .shape) (length (args .cells .now)) (own (begun c)) (asked .none)
+abbrev written : tie.After-done → tie.After-put-row
+written c = c .before .before .before
 
-  given : let args = begun c .args in Commits (args .shape) (args .row) (args .finished .now)
-  given = let args = begun c .args in commit-reads (args .shape) (args .row) (args .finished .now) (parts .1)
-
-  wide : c .sizes .given .0 .0 .columns ≡ columns (begun c .args .shape)
-  wide = ap (λ z. z .columns) (asked .sizes)
+passed :
+    (c : tie.After-sizes) → let start = begun (c .before .before) in
+    Passed (questions start) (start .args .shape) (c .sizes .given .0 .0)
+passed c =
+    let asked = c .before .before in
+    let start = begun asked in
+    door-passed (questions start) (start .args .shape) (asked .check-commit .result) (asked .check-commit .ensures) (c .sizes .given .1)
 
 check-commit-requires : tie.Need-check-commit-requires
 check-commit-requires c κs = search needs
@@ -53,36 +49,36 @@ enum-known-sizes : tie.Need-enum-known-sizes
 enum-known-sizes c = search needs
 
 put-row-requires : tie.Need-put-row-requires
-put-row-requires c κs =
-    let sizes = c .before .before in
-    let p = given sizes in
-    (row-within (parts sizes .0) (sizes .sizes .given .0 .0) (asked sizes .sizes) (begun sizes .args .row) (p .place), p .sound .sized ∙ sym (wide sizes))
+put-row-requires c κs = passed (sized c)
 
 done-requires : tie.Need-done-requires
 done-requires c κs = search needs
 
+-- refused
 returns : tie.Need-returns
 unfolding commitCall
 returns c =
-    let asked = c .before .before .before .before in
-    let start = asked .before .before .before in
-    let number = c .before .before .number .given in
+    let told = c .before .before in
+    let asked = told .before .before in
+    let start = begun asked in
+    let number = told .number .given in
     λ mem. gives-refusal (questions start) [] (withCells (start .args .cells .now) mem) (start .args .self) _ _ (number .0 .0)
-    (fails (questions start) (start .args .shape) (number .0 .0) (told (asked .check-commit .ensures) (number .1))) (c .refused .ensures)
+    (door-refused (questions start) (start .args .shape) (asked .check-commit .result) (asked .check-commit .ensures) (number .0 .0) (number .1))
+    (c .refused .ensures)
 
 same-length : tie.Need-same-length
 same-length c = search needs
 
+-- the row is written
 returns-2 : tie.Need-returns-2
-unfolding commitCall rowWritten
+unfolding commitCall
 returns-2 c =
-    let put = c .before .before .before in
-    let sizes = put .before .before .before in
-    let start = begun sizes in
-    let args = start .args in
-    let written = put .put-row .ensures ∙ ap (λ n. withRow n (args .cells .now) (args .row) (args .finished .now)) (wide sizes) in
-    λ mem. gives-done (questions start) [] (withCells (args .cells .now) mem) (args .self) _ [] [] _ _ idle idle (asked sizes .none)
-    (c .done .ensures) refl (sym (λ i. withCells (written i) mem)) refl
+    let row = written c in
+    let sizes = sized (row .before) in
+    let start = begun (sizes .before .before) in
+    λ mem. gives-done (questions start) [] (withCells (start .args .cells .now) mem) (start .args .self) _ [] []
+    (rowWritten (start .args .shape) (withCells (start .args .cells .now) mem) (start .args .row) (start .args .finished .now)) _ idle _ (passed sizes .none)
+    (c .done .ensures) refl (row .put-row .ensures mem) refl
 
 pub commit-spec : {M : Type 1} → statement M
 commit-spec =

@@ -5,11 +5,10 @@ use mathlib.Core.Bool.{Bool, true, false, cond, _&&_, false≢true}
 use native.Mathlib.Omega.{arith}
 use borrow.Author.Needs.{needs}
 use borrow.Author.Tests.{not-true, not-false, leb-false}
-use Rattle.parity.specs.Matrix.{cycleSteps}
-use Rattle.parity.specs.Claims.{longestShape}
-use Rattle.parity.proofs.Longest.{lookups-high, longestClaim}
+use Rattle.parity.specs.Claims.{mostSteps}
+use Rattle.parity.proofs.Longest.{lookups-high}
 use Rattle.cycle_place.specs.Places.{isPlaceOf}
-use Rattle.cycle_place.specs.Walk.{foundAt}
+use Rattle.cycle_place.specs.Walk.{toldAt}
 use Rattle.cycle_place.specs.declared.walk.Located.the-variants.{Elsewhere}
 use Rattle.cycle.specs.Record.{isOpen, isNext}
 use Rattle.cycle.proofs.CycleRecord.{next-record, next-phase}
@@ -26,44 +25,46 @@ opened c = c .before .before
 elsewhere :
     (c : tie.Start) → let args = c .args in
     (isNext (args .shape) (args .self) ≡ true → ⊥)
-    → Elsewhere ≡ cond (isNext (args .shape) (args .self)) (foundAt (args .shape) (args .self .count) (args .self .place)) Elsewhere
+    → Elsewhere ≡ cond (isNext (args .shape) (args .self)) (toldAt (args .self .skip) (args .shape) (args .self .count) (args .self .place)) Elsewhere
 elsewhere c not-next = go (isNext (c .args .shape) (c .args .self)) not-next
   where
-    go : (b : Bool) → (b ≡ true → ⊥) → Elsewhere ≡ cond b (foundAt (c .args .shape) (c .args .self .count) (c .args .self .place)) Elsewhere
+    go : (b : Bool) → (b ≡ true → ⊥) → Elsewhere ≡ cond b (toldAt (c .args .self .skip) (c .args .shape) (c .args .self .count) (c .args .self .place)) Elsewhere
     go true h = absurd (h refl)
     go false h = refl
 
 is-open-requires : tie.Need-is-open-requires
 is-open-requires c κs = search needs
 
+-- not open
 returns : tie.Need-returns
 returns c =
     let start = begun (c .before) in
     let args = start .args in
     elsewhere start
-    (λ e. false≢true (sym (not-true _ (c .if1 .taken)) ∙ c .before .is-open .ensures ∙ ap isOpen (next-phase (args .shape) (start .pre .0) (args .self) e)))
+    (λ e. false≢true (sym (not-true _ (c .if1 .taken)) ∙ c .before .is-open .ensures ∙ ap isOpen (next-phase (args .shape) (start .pre .taken) (args .self) e)))
 
 within-longest-requires : tie.Need-within-longest-requires
 within-longest-requires c κs = search needs
 
+-- past the longest cycle
 returns-2 : tie.Need-returns-2
 returns-2 c =
     let start = begun (opened (c .before)) in
     let args = start .args in
-    let above = leb-false (args .self .count) (cycleSteps 0 longestShape) (sym (c .before .within-longest .ensures) ∙ not-true _ (c .if2 .taken)) in
+    let above = leb-false (args .self .count) mostSteps (sym (c .before .within-longest .ensures) ∙ not-true _ (c .if2 .taken)) in
     elsewhere start
     (λ e.
     omega (
       arith,
       above,
-      longestClaim .reached,
-      next-record (args .shape) (start .pre .0) (args .self) e .1,
-      lookups-high (args .self .skip) (args .shape) (start .pre .0),
+      next-record (args .shape) (start .pre .taken) (args .self) e .1,
+      lookups-high (args .self .skip) (args .shape) (start .pre .taken),
     ))
 
 locate-requires : tie.Need-locate-requires
 locate-requires c κs = begun (opened (c .before)) .pre
 
+-- open, and walked
 returns-3 : tie.Need-returns-3
 unfolding isNext
 returns-3 c =
@@ -71,7 +72,7 @@ returns-3 c =
     let args = begun tested .args in
     let opens : isOpen (args .self .phase) ≡ true = sym (tested .is-open .ensures) ∙ not-false _ (c .before .before .before .if1 .left) in
     let asked : Bool = isPlaceOf (args .self .skip) (args .shape) (args .self .count) (args .self .place) in
-    c .locate .ensures ∙ ap (λ b. cond (b && asked) (foundAt (args .shape) (args .self .count) (args .self .place)) Elsewhere) (sym opens)
+    c .locate .ensures ∙ ap (λ b. cond (b && asked) (toldAt (args .self .skip) (args .shape) (args .self .count) (args .self .place)) Elsewhere) (sym opens)
 
 pub locate-spec : {M : Type 1} → statement M
 locate-spec =

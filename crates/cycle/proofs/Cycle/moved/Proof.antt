@@ -29,13 +29,15 @@ enum-told c = search needs
 complete-requires : tie.Need-complete-requires
 complete-requires c κs = search needs
 
+-- a lookup to come
 returns : tie.Need-returns
 returns c =
     let next = c .before .next .given in
     let start = c .before .before .before .before in
     let cycle = start .args .self in
-    opened cycle (next .0 .0) (start .pre .0) ∙ ap (λ n. recordAt (cycle .skip) n (suc (cycle .count))) (sym (next .1))
+    opened cycle (next .0 .0) (start .pre .open-phase) ∙ ap (λ n. recordAt (cycle .skip) n (suc (cycle .count))) (sym (next .1))
 
+-- the end
 returns-2 : tie.Need-returns-2
 returns-2 c =
     let cycle = c .before .before .before .before .args .self in

@@ -1,17 +1,17 @@
--- `cycle::Cycle::program` meets its contract: `check_cells` and `check_program` ask, and `write_row` writes the row. Assumes nothing.
-use mathlib.Core.Path.{_≡_, refl, sym}
-use mathlib.Core.List.{List, [], _∷_}
+-- `cycle::Cycle::program` meets its contract: `check_program` asks, `write_row` writes the row, and the record is idle. Assumes nothing.
+use mathlib.Core.Path.{_≡_, refl, sym, ap, _∙_}
+use mathlib.Core.List.{List, []}
 use lib.ListN.{length}
 use borrow.Author.Needs.{needs}
-use Rattle.parity.specs.Questions.{Question, firstNo}
-use Rattle.shape.specs.Shapes.{checkedSays, sizesIf}
-use Rattle.shape.proofs.Refusals.{told, fails, Passes, passes, answer-tells}
-use Rattle.array_memory.specs.Memory.{withCells, cellsLength}
+use Rattle.parity.specs.Codeword.{encode}
+use Rattle.parity.specs.Questions.{Question}
+use Rattle.shape.specs.Shapes.{Passed}
+use Rattle.shape.proofs.Refusals.{door-passed, door-refused}
+use Rattle.array_memory.specs.Memory.{Memory, withCells}
 use Rattle.array_questions.specs.Questions.{cellsQuestions, programArguments}
-use Rattle.array_questions.proofs.Asked.{cells-then}
 use Rattle.array.specs.Calls.{rowWritten}
-use Rattle.cycle.specs.Record.{idle}
 use Rattle.cycle.specs.Calls.{programCall}
+use Rattle.cycle.specs.Record.{idle}
 use Rattle.cycle.proofs.Given.{gives-refusal, gives-done}
 use Rattle.cycle.proofs.Cycle.program.Statement.{statement}
 use Rattle.cycle.proofs.Cycle.program.Tie as tie
@@ -19,31 +19,26 @@ use Rattle.cycle.proofs.Cycle.program.Tie as tie
 abbrev questions : tie.Start → List Question
 questions c = cellsQuestions (c .args .shape) (length (c .args .cells .now)) (programArguments (c .args .shape) (c .args .row) (c .args .given .now))
 
--- the call's place, from that of the answer, and from that where the questions are passed
-abbrev entry : tie.After-check-program → tie.Start
-entry c = c .before .before .before .before
+-- the places of the start, of the sizes and of the writing, each from one that follows
+abbrev begun : tie.After-check-program → tie.Start
+begun c = c .before .before .before
 
-abbrev begun : tie.After-sizes → tie.Start
-begun c = entry (c .before .before)
+abbrev sized : tie.After-write-row-arg → tie.After-sizes
+sized c = c .before .before
 
--- what is answered to all the questions
-answered : (c : tie.After-check-program) → checkedSays (c .check-program .result) ≡ sizesIf (firstNo (questions (entry c))) (entry c .args .shape)
-answered c =
-    let start = entry c in
-    let s = start .args .shape in
-    cells-then s (length (start .args .cells .now)) [] (programArguments s (start .args .row) (start .args .given .now)) refl
-    (c .before .check-cells .result) (c .check-program .result) (c .before .check-cells .ensures) (c .check-program .ensures)
+abbrev written : tie.After-done → tie.After-write-row
+written c = c .before .before .before
 
-asked : (c : tie.After-sizes) → Passes (questions (begun c)) (begun c .args .shape) (c .sizes .given .0 .0)
-asked c = passes _ _ _ (told (answered (c .before .before)) (c .sizes .given .1))
-
-check-cells-requires : tie.Need-check-cells-requires
-check-cells-requires c κs = search needs
+passed :
+    (c : tie.After-sizes) → let start = begun (c .before .before) in
+    Passed (questions start) (start .args .shape) (c .sizes .given .0 .0)
+passed c =
+    let asked = c .before .before in
+    let start = begun asked in
+    door-passed (questions start) (start .args .shape) (asked .check-program .result) (asked .check-program .ensures) (c .sizes .given .1)
 
 check-program-requires : tie.Need-check-program-requires
-check-program-requires c κs =
-    let args = c .before .before .before .args in
-    answer-tells (args .shape) (c .check-cells .result) (cellsLength (args .shape) (length (args .cells .now)) ∷ []) (c .check-cells .ensures)
+check-program-requires c κs = search needs
 
 enum-known-number : tie.Need-enum-known-number
 enum-known-number c = search needs
@@ -55,37 +50,41 @@ enum-known-sizes : tie.Need-enum-known-sizes
 enum-known-sizes c = search needs
 
 write-row-requires : tie.Need-write-row-requires
-write-row-requires c κs = let p = asked (c .before .before) in (p .none, p .sizes)
+write-row-requires c κs = passed (sized c)
 
 done-requires : tie.Need-done-requires
 done-requires c κs = search needs
 
+-- refused
 returns : tie.Need-returns
 unfolding programCall
 returns c =
-    let asked = c .before .before .before .before in
-    let start = entry asked in
-    let number = c .before .before .number .given in
+    let told = c .before .before in
+    let asked = told .before .before in
+    let start = begun asked in
+    let number = told .number .given in
     λ mem. gives-refusal (questions start) [] (withCells (start .args .cells .now) mem) (start .args .self) _ _ (number .0 .0)
-    (fails (questions start) (start .args .shape) (number .0 .0) (told (answered asked) (number .1))) (c .refused .ensures)
+    (door-refused (questions start) (start .args .shape) (asked .check-program .result) (asked .check-program .ensures) (number .0 .0) (number .1))
+    (c .refused .ensures)
 
 same-length : tie.Need-same-length
 same-length c = search needs
 
+-- the row is written
 returns-2 : tie.Need-returns-2
-unfolding programCall rowWritten
+unfolding programCall
 returns-2 c =
-    let written = c .before .before .before in
-    let sizes = written .before .before .before in
-    let start = begun sizes in
-    λ mem. gives-done (questions start) [] (withCells (start .args .cells .now) mem) (start .args .self) _ [] [] _ _ idle idle (asked sizes .none)
-    (c .done .ensures) refl (sym (λ i. withCells (written .write-row .ensures i) mem)) refl
+    let row = written c in
+    let sizes = sized (row .before) in
+    let start = begun (sizes .before .before) in
+    λ mem. gives-done (questions start) [] (withCells (start .args .cells .now) mem) (start .args .self) _ [] []
+    (rowWritten (start .args .shape) (withCells (start .args .cells .now) mem) (start .args .row) (encode (start .args .shape) (start .args .given .now))) _ idle _ (passed sizes .none)
+    (c .done .ensures) refl (row .write-row .ensures mem) refl
 
 pub program-spec : {M : Type 1} → statement M
 program-spec =
     tie.close
     (tie.spec
-    check-cells-requires
     check-program-requires
     enum-known-number
     refused-requires

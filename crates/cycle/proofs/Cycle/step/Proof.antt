@@ -1,10 +1,14 @@
--- `cycle::Cycle::step` meets its contract: `check_shape` and `check_matches` ask up to 6, and `step_lent` does the rest. Assumes nothing.
-use mathlib.Core.Path.{_≡_, refl, _∙_}
+-- `cycle::Cycle::step` meets its contract: `check_shape` and `check_lent` ask up to 6, and `step_lent` does the rest. Assumes nothing.
+use mathlib.Core.Path.{_≡_, refl}
 use mathlib.Core.List.{List, [], _∷_}
+use lib.ListN.{length}
 use borrow.Author.Needs.{needs}
-use Rattle.parity.specs.Questions.{Question, firstNo, shapeQuestions, shapeRefusal, callQuestions}
-use Rattle.shape.specs.Shapes.{checkedSays, sizesIf}
-use Rattle.shape.proofs.Refusals.{told, fails, Passes, passes, first-found, answer-tells, answer-then}
+use Rattle.parity.specs.Questions.{Question, firstNo, shapeQuestions}
+use Rattle.shape.specs.Shapes.{checkedSays, sizesIf, sizesIn}
+use Rattle.shape.proofs.Refusals.{door-passed, door-refused, first-found, shape-asked, sizes-known}
+use Rattle.shape.proofs.Asking.{both-asked}
+use Rattle.array_memory.specs.Blocks.{blocks}
+use Rattle.array_memory.specs.Lengths.{allLengths}
 use Rattle.array_memory.specs.Memory.{Memory, withAll, noMemory}
 use Rattle.cycle.specs.Record.{cycleQuestion}
 use Rattle.cycle.specs.Calls.{lentQuestions, stepCall}
@@ -18,35 +22,44 @@ lent c mem = withAll (c .args .cells .now) (c .args .lines .now) (c .args .count
 
 -- the questions up to 6, and 9
 abbrev first : tie.Start → List Question
-first c = callQuestions (c .args .shape) [] (lentQuestions (c .args .shape) (lent c noMemory) (c .args .matches .now)) []
+first c = lentQuestions (c .args .shape) [] (allLengths (lent c noMemory)) (length (c .args .matches .now))
 
 abbrev more : tie.Start → List Question
 more c = cycleQuestion (c .args .shape) (c .args .self) ∷ []
 
--- the call's place, from that of its questions
-abbrev begun : tie.After-check-matches → tie.Start
-begun c = c .before .before .before .before .before .before .before .before
+-- the places of the start, of the sizes and of the act, each from one that follows
+abbrev known : tie.After-slice-known2 → tie.Start
+known c = c .before .before .before .before
+
+abbrev begun : tie.After-check-lent → tie.Start
+begun c = known (c .before .before .before .before)
+
+abbrev sized : tie.After-step-lent-arg4 → tie.After-known-told2
+sized c = c .before .before .before .before
+
+abbrev matched : tie.After-slice-known8 → tie.After-slice-known6
+matched c = c .before .before .before .before
+
+abbrev flagged : tie.After-slice-known6 → tie.After-step-lent
+flagged c = c .before .before .before .before
 
 -- what is answered up to 6
-answered : (c : tie.After-check-matches) → checkedSays (c .check-matches .result) ≡ sizesIf (firstNo (first (begun c))) (begun c .args .shape)
-unfolding shapeRefusal
+answered : (c : tie.After-check-lent) → checkedSays (c .check-lent .result) ≡ sizesIf (firstNo (first (begun c))) (begun c .args .shape)
 answered c =
     let start = begun c in
     let s = start .args .shape in
-    let shape = c .before in
-    c .check-matches .ensures
-    ∙ answer-then (shapeQuestions s) (lentQuestions s (lent start noMemory) (start .args .matches .now)) s (shape .check-shape .result) refl
-    (shape .check-shape .ensures)
-
-asked : (c : tie.After-sizes) → Passes (first (begun (c .before .before))) (begun (c .before .before) .args .shape) (c .sizes .given .0 .0)
-asked c = passes _ _ _ (told (answered (c .before .before)) (c .sizes .given .1))
+    let m = s .rows in
+    let shape = c .before .check-shape in
+    let asked = shape .result in
+    both-asked s (shapeQuestions s) refl asked (c .check-lent .result) (sizesIn asked) _ (shape-asked s asked (shape .ensures))
+    (sizes-known s asked (sizesIn asked) [] (shape .ensures) refl) (c .check-lent .ensures) (allLengths (lent start noMemory))
+    (λ z. z .cells ∷ m ∷ m ∷ m ∷ blocks s ∷ []) (length (start .args .matches .now) ∷ []) (λ z. m ∷ []) refl refl
 
 check-shape-requires : tie.Need-check-shape-requires
 check-shape-requires c κs = search needs
 
-check-matches-requires : tie.Need-check-matches-requires
-unfolding shapeRefusal
-check-matches-requires c κs = answer-tells _ (c .check-shape .result) [] (c .check-shape .ensures)
+check-lent-requires : tie.Need-check-lent-requires
+check-lent-requires c κs = search needs
 
 enum-known-number : tie.Need-enum-known-number
 enum-known-number c = search needs
@@ -58,18 +71,22 @@ enum-known-sizes : tie.Need-enum-known-sizes
 enum-known-sizes c = search needs
 
 step-lent-requires : tie.Need-step-lent-requires
-step-lent-requires c κs = let p = asked (c .before .before .before .before .before) in (p .none, p .sizes)
+step-lent-requires c κs =
+    let sizes = sized c .before in
+    let asked = sizes .before .before in
+    let start = begun asked in
+    door-passed (first start) (start .args .shape) (asked .check-lent .result) (answered asked) (sizes .sizes .given .1)
 
+-- refused up to 6
 returns : tie.Need-returns
 unfolding stepCall
 returns c =
-    let known = c .before .before in
-    let asked = known .before .before in
+    let told = c .before .before in
+    let asked = told .before .before in
     let start = begun asked in
-    let args = start .args in
-    let number = known .number .given in
-    let no = fails (first start) (args .shape) (number .0 .0) (told (answered asked) (number .1)) in
-    λ mem. gives-refusal _ (args .matches .now) (lent start mem) (args .self) _ _ (number .0 .0)
+    let number = told .number .given in
+    let no = door-refused (first start) (start .args .shape) (asked .check-lent .result) (answered asked) (number .0 .0) (number .1) in
+    λ mem. gives-refusal _ (start .args .matches .now) (lent start mem) (start .args .self) _ _ (number .0 .0)
     (first-found (first start) (more start) (number .0 .0) (no .1) (no .0), no .1) (c .refused .ensures)
 
 same-length : tie.Need-same-length
@@ -84,19 +101,16 @@ same-length-3 c = search needs
 same-length-4 : tie.Need-same-length-4
 same-length-4 c = search needs
 
--- what the step on the lent buffers says
-abbrev stepped : tie.After-slice-known8 → tie.After-step-lent
-stepped c = c .before .before .before .before .before .before .before .before
-
+-- the act's answer
 returns-2 : tie.Need-returns-2
-returns-2 c = stepped c .step-lent .ensures
+returns-2 c = flagged (matched c) .step-lent .ensures
 
 pub step-spec : {M : Type 1} → statement M
 step-spec =
     tie.close
     (tie.spec
     check-shape-requires
-    check-matches-requires
+    check-lent-requires
     enum-known-number
     refused-requires
     enum-known-sizes

@@ -10,7 +10,8 @@ use Rattle.parity.specs.declared.Shape.{Shape}
 use Rattle.parity.proofs.ListLaws.{length-tabulate}
 use Rattle.schedule.specs.Schedule.{opening}
 use Rattle.array_memory.specs.Blocks.{blocksOf}
-use Rattle.array_memory.specs.Memory.{Memory, withLines, withFlagged, withRows, Sized}
+use Rattle.array_memory.specs.Lengths.{Sized}
+use Rattle.array_memory.specs.Memory.{Memory, withLines, withFlagged, withRows}
 use Rattle.cycle_lookup.specs.Lookup.{entryMatches, lookedUp}
 use Rattle.cycle_lookup.proofs.Passes.{opening-matches, opening-counters, opening-flags, totals-counted}
 use Rattle.cycle_lookup.proofs.opening.make_opening.Statement.{statement}
@@ -40,7 +41,7 @@ matched :
     → entryMatches s opening (withLines (entry c .args .lines .now) mem) ≡ c .overwrite .last .1 .0
 matched c s t mem sized =
     let start = entry c in
-    let rows : length (start .args .matches .now) ≡ s .rows = sym (start .pre .0) ∙ sized .lines in
+    let rows : length (start .args .matches .now) ≡ s .rows = sym (start .pre .matches) ∙ sized .lines in
     sym
     (opening-matches s t (withLines (start .args .lines .now) mem) (sized .cells) (length (start .args .matches .now)) rows (filled c .fill .ensures)
     (length (filled c .fill .last .0)) (ap length (filled c .fill .ensures) ∙ length-replicate (length (start .args .matches .now)) 1 ∙ rows)
@@ -67,7 +68,7 @@ total-blocks-requires : tie.Need-total-blocks-requires
 total-blocks-requires c κs =
     let flags = c .before .before .before .before in
     let start = entry (muted flags) in
-    start .pre .2 ∙ sym (ap blocksOf (ap length (flags .overwrite2 .ensures) ∙ length-tabulate (length (start .args .flags .now)) _))
+    start .pre .totals ∙ sym (ap blocksOf (ap length (flags .overwrite2 .ensures) ∙ length-tabulate (length (start .args .flags .now)) _))
 
 same-length : tie.Need-same-length
 same-length c = search needs

@@ -53,13 +53,13 @@ module _ (c : tie.Joined1 Inv-loop μ-loop) where
       let args = begun c .args in
       let loop = turn c .loop in
       let i = loop .i in
-      let given = begun c .pre .2 i (omega arith) in
+      let pre = begun c .pre in
       omega (
         arith,
         pass-here (loop .inv .1),
         byte-is,
-        low (eqb (getD (args .lines .now) i 0) 0) (getD (args .matches .now) i 0) (given .1),
-        given .0,
+        low (eqb (getD (args .lines .now) i 0) 0) (getD (args .matches .now) i 0) (pre .0 .bytes i (omega arith)),
+        pre .1 i (omega arith),
       )
 
 loop-holds : tie.Need-loop-holds Inv-loop μ-loop

@@ -44,7 +44,7 @@ lent :
     (c : tie.After-block-end Inv-loop μ-loop)
     → midOf (turn c .loop .start) (c .block-end .result - turn c .loop .start) (begun (turn c) .args .flags .now)
     ≡ blockAt (begun (turn c) .args .flags .now) (turn c .loop .i)
-lent c = block-part _ (turn c .loop .i) _ _ (starts (c .before)) (c .block-end .ensures .2)
+lent c = block-part _ (turn c .loop .i) _ _ (starts (c .before)) (c .block-end .ensures)
 
 loop-holds : tie.Need-loop-holds Inv-loop μ-loop
 loop-holds c = (pass-start _ _, λ h. omega arith)
@@ -53,13 +53,13 @@ block-end-requires : tie.Need-block-end-requires Inv-loop μ-loop
 block-end-requires c κs = omega (arith, starts c, inside c)
 
 sub-count-flags : tie.Need-sub-count-flags Inv-loop μ-loop
-sub-count-flags c = omega (arith, c .block-end .ensures .0)
+sub-count-flags c = omega (arith, c .block-end .ensures, starts (c .before), inside (c .before))
 
 part-count-flags-start : tie.Need-part-count-flags-start Inv-loop μ-loop
-part-count-flags-start c = omega (arith, c .block-end .ensures .0)
+part-count-flags-start c = omega (arith, c .block-end .ensures, starts (c .before), inside (c .before))
 
 part-count-flags-end : tie.Need-part-count-flags-end Inv-loop μ-loop
-part-count-flags-end c = omega (arith, c .block-end .ensures .1)
+part-count-flags-end c = omega (arith, c .block-end .ensures)
 
 count-flags-requires : tie.Need-count-flags-requires Inv-loop μ-loop
 count-flags-requires c κs = rw (lent (c .before)) (block-low (begun (turn (c .before)) .args .flags .now) (turn (c .before) .loop .i))
@@ -81,7 +81,7 @@ loop-again c =
       pass-next (loop .inv .0) refl (c .count-flags .ensures ∙ ap countFlagged (lent ended)) (omega arith),
       λ h.
           let more = block-starts (loop .i + 1) (length flags) (omega (arith, begun (turn ended) .pre)) in
-          ⊎-elim (λ e. omega (arith, e, starts (ended .before))) (λ e. omega (arith, e .1, starts (ended .before), more)) (ended .block-end .ensures .2),
+          omega (arith, ended .block-end .ensures, starts (ended .before), more),
     )
 
 same-length : tie.Need-same-length Inv-loop μ-loop

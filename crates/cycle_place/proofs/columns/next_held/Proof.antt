@@ -29,6 +29,7 @@ loop-holds c = ((omega arith, omega arith), refl)
 shared-slice-read-if1 : tie.Need-shared-slice-read-if1 Inv-loop μ-loop
 shared-slice-read-if1 c = omega arith
 
+-- a column is found
 returns : tie.Need-returns Inv-loop μ-loop
 returns c =
     let at = turn (c .before) in
@@ -50,6 +51,7 @@ loop-again c =
     let none = masked-none (args .check) number _ (at .before .mask-of .ensures) (c .if1 .left) in
     (omega arith, sym (held-later (args .matrix .now) (args .check) (at .loop .j) (omega arith) (λ e. omega arith)) ∙ at .loop .inv .1)
 
+-- there is none
 returns-2 : tie.Need-returns-2 Inv-loop μ-loop
 returns-2 c =
     let args = begun (c .before) .args in

@@ -27,7 +27,7 @@ loop-holds : tie.Need-loop-holds Inv-loop μ-loop
 loop-holds c = (omega arith, refl)
 
 count-held-requires : tie.Need-count-held-requires Inv-loop μ-loop
-count-held-requires c κs = omega arith
+count-held-requires c κs = record { few = omega arith; check = omega arith }
 
 add-before : tie.Need-add-before Inv-loop μ-loop
 add-before c =
@@ -45,7 +45,7 @@ loop-again : tie.Need-loop-again Inv-loop μ-loop
 loop-again c = (omega arith, rw add-one (ap₂ _+_ (c .before .before .loop .inv .1) (c .count-held .ensures)))
 
 count-held-requires-2 : tie.Need-count-held-requires-2 Inv-loop μ-loop
-count-held-requires-2 c κs = omega arith
+count-held-requires-2 c κs = record { few = omega arith; check = omega arith }
 
 slice-aggregate-count-held : tie.Need-slice-aggregate-count-held Inv-loop μ-loop
 slice-aggregate-count-held c =
@@ -55,7 +55,7 @@ slice-aggregate-count-held c =
 count-held-requires-3 : tie.Need-count-held-requires-3 Inv-loop μ-loop
 count-held-requires-3 c κs =
     let args = begun (summed c) .args in
-    omega (arith, length-take (args .column) (args .matrix .now))
+    record { few = omega (arith, length-take (args .column) (args .matrix .now)); check = omega arith }
 
 returns : tie.Need-returns Inv-loop μ-loop
 returns c =

@@ -24,10 +24,10 @@ module _ (c : tie.Start) where
   span = next * c .args .radix
 
   next-high : next ≤ span
-  next-high = let h : next * 1 ≤ span = mul-le-mul-left next (c .pre .1) in omega arith
+  next-high = let h : next * 1 ≤ span = mul-le-mul-left next (c .pre .radix) in omega arith
 
   factor-below : c .args .factor / c .args .radix < c .args .factor
-  factor-below = quotient-below (c .args .factor) (c .args .radix) (c .pre .1) (c .pre .2 .1)
+  factor-below = quotient-below (c .args .factor) (c .args .radix) (c .pre .radix) (c .pre .undivided)
 
   before-high : (c .args .levels - 1) * c .args .survey .before ≤ 255 * 2040
   before-high = mul-le-mul {n₂ = 255} {m₂ = 2040} (omega arith) (omega arith)
@@ -80,7 +80,7 @@ add-result-3 c = let s = c .before .before .before in omega (arith, before-high 
 returns : tie.Need-returns
 returns c =
     let s = c .before .before .before in
-    rw (quotient-before (s .args .factor) (s .args .radix) (s .pre .1) (s .pre .2 .1))
+    rw (quotient-before (s .args .factor) (s .args .radix) (s .pre .radix) (s .pre .undivided))
 
 pub index-of-spec : {M : Type 1} → statement M
 index-of-spec =

@@ -29,6 +29,7 @@ sub-if1 c = search needs
 add-result : tie.Need-add-result
 add-result c = search needs
 
+-- ρ divides the next
 returns : tie.Need-returns
 returns c =
     let s = c .before in
@@ -37,6 +38,7 @@ returns c =
 add-result-2 : tie.Need-add-result-2
 add-result-2 c = search needs
 
+-- ρ does not
 returns-2 : tie.Need-returns-2
 returns-2 c =
     let s = c .before in

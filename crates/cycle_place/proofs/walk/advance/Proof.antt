@@ -36,10 +36,10 @@ module _ (c : tie.Start) where
   own = c .args .place
 
   taken : Taken shape
-  taken = c .pre .0 .0
+  taken = c .pre .0 .taken
 
   place : Stands skip shape own
-  place = c .pre .1 .0
+  place = c .pre .1 .stands
 
   -- ---- the sizes
 
@@ -50,7 +50,7 @@ module _ (c : tie.Start) where
   factor-high = omega (arith, place .high, span-high shape taken (own .digit))
 
   column-within : suc (own .column) ≤ length (c .args .matrix .now)
-  column-within = omega (arith, ap length (c .pre .0 .2), matrixClaim shape taken .sized, place .column)
+  column-within = omega (arith, ap length (c .pre .0 .matrix), matrixClaim shape taken .sized, place .column)
 
   column-high : own .column < 255
   column-high = omega (arith, place .column, columns-high shape taken)
@@ -64,23 +64,23 @@ module _ (c : tie.Start) where
   -- ---- what is given, and the place that is returned
 
   all-checks : c .args .sizes .checks ≡ checks shape
-  all-checks = ap (λ z. z .checks) (c .pre .0 .1)
+  all-checks = ap (λ z. z .checks) (c .pre .0 .sizes)
 
-  own-span : c .args .standing .span ≡ span shape (own .digit)
-  own-span = ap (λ z. z .span) (c .pre .1 .1)
+  own-span : c .args .extent .span ≡ span shape (own .digit)
+  own-span = ap (λ z. z .span) (c .pre .1 .extent)
 
-  own-size : c .args .standing .size ≡ supportSize shape (own .check)
-  own-size = ap (λ z. z .size) (c .pre .1 .1)
+  own-size : c .args .extent .size ≡ supportSize shape (own .check)
+  own-size = ap (λ z. z .size) (c .pre .1 .extent)
 
-  own-rank : c .args .standing .rank ≡ rank shape (own .check) (own .column)
-  own-rank = ap (λ z. z .rank) (c .pre .1 .1)
+  own-rank : c .args .extent .rank ≡ rank shape (own .check) (own .column)
+  own-rank = ap (λ z. z .rank) (c .pre .1 .extent)
 
   moved :
       {r ℓ e d i j b a : ℕ} → r ≡ ℓ → e ≡ d → i ≡ j → b ≡ a → nextAt skip shape (suc (indexOf skip shape own)) ≡ nexts.Place (placeAt ℓ d j a)
       → nexts.Place (placeAt r e i b) ≡ nextAt skip shape (suc (indexOf skip shape own))
   moved check digit column factor law = (λ i. nexts.Place (placeAt (check i) (digit i) (column i) (factor i))) ∙ sym law
 
--- the tests that a return has left behind: there is no factor more in the column, and no column more in the digit
+-- the tests that have failed before a return: there is no factor more in the column, and no column more in the digit
 abbrev begun : tie.After-struct-known → tie.Start
 begun c = c .before .before .before
 
@@ -102,6 +102,7 @@ last c = let s = start (factors-done c) in omega (arith, c .if2 .left, own-size 
 next-factor-requires : tie.Need-next-factor-requires
 next-factor-requires c κs = let s = c .before in omega (arith, factor-high s, limits (shape s) (taken s) .radixLow)
 
+-- the next factor
 returns : tie.Need-returns
 returns c =
     let s = begun (c .before) in
@@ -119,11 +120,12 @@ next-held-requires c κs =
     let s = start (c .before .before .before) in
     omega (arith, place s .check, checks-high s, column-within s)
 
+-- the next column
 returns-2 : tie.Need-returns-2
 returns-2 c =
     let x = c .before .before .before .before in
     let s = start x in
-    moved s refl refl (c .next-held .ensures ∙ ap₂ (λ cs i. heldFrom cs (own s .check) i) (s .pre .0 .2) (add-one (own s .column))) refl
+    moved s refl refl (c .next-held .ensures ∙ ap₂ (λ cs i. heldFrom cs (own s .check) i) (s .pre .0 .matrix) (add-one (own s .column))) refl
     (follow-column (skip s) (shape s) (taken s) (own s) (place s) (past x) (omega (arith, c .before .if2 .taken, own-rank s, own-size s)))
 
 sub-next : tie.Need-sub-next
@@ -132,12 +134,13 @@ sub-next c = search needs
 next-held-requires-2 : tie.Need-next-held-requires-2
 next-held-requires-2 c κs = let s = start (factors-done (c .before)) in omega (arith, place s .check, checks-high s)
 
+-- the next digit
 returns-3 : tie.Need-returns-3
 returns-3 c =
     let y = c .before .before in
     let x = factors-done y in
     let s = start x in
-    moved s refl refl (c .next-held2 .ensures ∙ ap (λ cs. heldFrom cs (own s .check) 0) (s .pre .0 .2)) refl
+    moved s refl refl (c .next-held2 .ensures ∙ ap (λ cs. heldFrom cs (own s .check) 0) (s .pre .0 .matrix)) refl
     (follow-digit (skip s) (shape s) (taken s) (own s) (place s) (past x) (last y) (c .before .if3 .taken))
 
 add-if4 : tie.Need-add-if4
@@ -161,6 +164,7 @@ next-held-requires-3 c κs =
 lowest : (c : tie.Else3) → let s = start (factors-done (c .before)) in own s .digit ≡ skip s
 lowest c = omega (arith, c .if3 .left, place (start (factors-done (c .before))) .unskipped)
 
+-- the next check row
 returns-4 : tie.Need-returns-4
 returns-4 c =
     let then = c .before .before in
@@ -168,10 +172,11 @@ returns-4 c =
     let x = factors-done y in
     let s = start x in
     let check = add-one (own s .check) in
-    moved s check refl (c .next-held3 .ensures ∙ ap₂ (λ cs ℓ. heldFrom cs ℓ 0) (s .pre .0 .2) check) refl
+    moved s check refl (c .next-held3 .ensures ∙ ap₂ (λ cs ℓ. heldFrom cs ℓ 0) (s .pre .0 .matrix) check) refl
     (follow-check (skip s) (shape s) (taken s) (own s) (place s) (past x) (last y) (lowest (then .before .before))
     (omega (arith, then .if4 .taken, all-checks s)))
 
+-- the end
 returns-5 : tie.Need-returns-5
 returns-5 c =
     let y = c .before .before .before in

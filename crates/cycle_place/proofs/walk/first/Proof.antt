@@ -24,7 +24,7 @@ first-as z s t h found all =
     ∙ ap (λ j. nexts.Place (placeAt 0 (s .digits - 1) j 1)) (sym (found ∙ ap (λ cs. heldFrom cs 0 0) all))
 
 sub-t4 : tie.Need-sub-t4
-sub-t4 c = limits (c .before .args .shape) (c .before .pre .0) .digitsLow
+sub-t4 c = limits (c .before .args .shape) (c .before .pre .taken) .digitsLow
 
 next-held-requires : tie.Need-next-held-requires
 next-held-requires c κs = search needs
@@ -32,7 +32,7 @@ next-held-requires c κs = search needs
 returns : tie.Need-returns
 returns c =
     let start = c .before .before in
-    λ z h. first-as z (start .args .shape) (start .pre .0) h (c .next-held .ensures) (start .pre .1)
+    λ z h. first-as z (start .args .shape) (start .pre .taken) h (c .next-held .ensures) (start .pre .matrix)
 
 pub first-spec : {M : Type 1} → statement M
 first-spec = tie.close (tie.spec sub-t4 next-held-requires returns)

@@ -3,15 +3,18 @@ use borrow.Author.Tests.{eq-eqb, ne-eqb}
 use Rattle.cycle_place.proofs.walk.is_zero.Statement.{statement}
 use Rattle.cycle_place.proofs.walk.is_zero.Tie as tie
 
+-- the check row is not 0
 returns : tie.Need-returns
 returns c = let p = c .before .before .args .place in simp (ne-eqb (p .check) 0 (c .if1 .taken))
 
+-- the digit is not 0
 returns-2 : tie.Need-returns-2
 returns-2 c =
     let one = c .before .before in
     let p = one .before .before .args .place in
     simp (eq-eqb (p .check) 0 (one .if1 .left), ne-eqb (p .digit) 0 (c .if2 .taken))
 
+-- the column is not 0
 returns-3 : tie.Need-returns-3
 returns-3 c =
     let two = c .before .before in
@@ -19,6 +22,7 @@ returns-3 c =
     let p = one .before .before .args .place in
     simp (eq-eqb (p .check) 0 (one .if1 .left), eq-eqb (p .digit) 0 (two .if2 .left), ne-eqb (p .column) 0 (c .if3 .taken))
 
+-- all but the factor are 0
 returns-4 : tie.Need-returns-4
 returns-4 c =
     let three = c .before in

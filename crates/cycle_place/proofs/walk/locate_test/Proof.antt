@@ -26,11 +26,11 @@ use Rattle.parity.proofs.Sizes.{columns-high}
 use Rattle.schedule.specs.Index.{supportSize, rank, span, placeIndex}
 use Rattle.cycle_place.specs.Places.{isPlaceOf}
 use Rattle.cycle_place.specs.Survey.{surveyOf}
-use Rattle.cycle_place.specs.Walk.{Stands, indexOf, standingAt, foundAt, locatedAt}
+use Rattle.cycle_place.specs.Walk.{Stands, indexOf, extentAt, soughtAt}
 use Rattle.cycle_place.specs.declared.Place.{Place}
 use Rattle.cycle_place.specs.declared.columns.Survey.{Survey}
-use Rattle.cycle_place.specs.declared.walk.Standing.{Standing}
-use Rattle.cycle_place.specs.declared.walk.Located.the-variants.{At, Elsewhere}
+use Rattle.cycle_place.specs.declared.walk.Extent.{Extent}
+use Rattle.cycle_place.specs.declared.walk.Sought.the-variants.{At, Elsewhere}
 use Rattle.cycle_place.proofs.CheckRows.{places-high, rows-high, bit-tested}
 use Rattle.cycle_place.proofs.Spans.{span-high, span-times, span-power, span-down, span-less}
 use Rattle.cycle_place.proofs.Places.{AtPlace, place-entry, place-at, at-place}
@@ -84,34 +84,31 @@ module _ (c : tie.Start) where
   place = c .args .place
 
   taken : Taken shape
-  taken = c .pre .0
+  taken = c .pre .0 .taken
 
   -- ---- what is given
 
   all-checks : c .args .sizes .checks ≡ checks shape
-  all-checks = ap (λ z. z .checks) (c .pre .1)
+  all-checks = ap (λ z. z .checks) (c .pre .0 .sizes)
 
   all-columns : length (c .args .matrix .now) ≡ columns shape
-  all-columns = ap length (c .pre .2) ∙ matrixClaim shape taken .sized
+  all-columns = ap length (c .pre .0 .matrix) ∙ matrixClaim shape taken .sized
 
   checks-high : checks shape ≤ 8
   checks-high = redundancyClaim shape taken .high
 
   -- ---- the answers
 
-  misplaced : (AtPlace skip shape (c .args .count) place → ⊥) → Elsewhere ≡ locatedAt skip shape (c .args .count) place
-  misplaced not-there = go (isPlaceOf skip shape (c .args .count) place) (λ e. not-there (place-at skip shape taken (c .args .count) (c .pre .3) place e))
+  misplaced : (AtPlace skip shape (c .args .count) place → ⊥) → Elsewhere ≡ soughtAt skip shape (c .args .count) place
+  misplaced not-there = go (isPlaceOf skip shape (c .args .count) place) (λ e. not-there (place-at skip shape taken (c .args .count) (c .pre .1) place e))
     where
-      go : (b : Bool) → (b ≡ true → ⊥) → Elsewhere ≡ cond b (foundAt shape (c .args .count) place) Elsewhere
+      go : (b : Bool) → (b ≡ true → ⊥) → Elsewhere ≡ cond b (At (extentAt shape place)) Elsewhere
       go true h = absurd (h refl)
       go false h = refl
 
-  found :
-      AtPlace skip shape (c .args .count) place → {v : Standing} → v ≡ standingAt shape place → At v ≡ locatedAt skip shape (c .args .count) place
+  found : AtPlace skip shape (c .args .count) place → {v : Extent} → v ≡ extentAt shape place → At v ≡ soughtAt skip shape (c .args .count) place
   found at same =
-      ap At same
-      ∙ ap (λ c. foundAt shape c place) (at .1)
-      ∙ sym (ap (λ b. cond b (foundAt shape (c .args .count) place) Elsewhere) (at-place skip shape taken (c .args .count) place at))
+      ap At same ∙ sym (ap (λ b. cond b (At (extentAt shape place)) Elsewhere) (at-place skip shape taken (c .args .count) place at))
 
   radix-some : 0 < shape .radix
   radix-some = omega (arith, limits shape taken .radixLow)
@@ -146,7 +143,7 @@ bit-read :
     ≡ (let s = counted (c .before .before .before) in bit (place s .check) (getD (matrix (shape s)) (place s .column) 0))
 bit-read c =
     let s = counted (c .before .before .before) in
-    bit-tested (place s .check) _ _ _ (c .power-of-two .ensures) (c .before .wide .ensures ∙ ap (λ cs. getD cs (place s .column) 0) (s .pre .2))
+    bit-tested (place s .check) _ _ _ (c .power-of-two .ensures) (c .before .wide .ensures ∙ ap (λ cs. getD cs (place s .column) 0) (s .pre .0 .matrix))
 
 -- the spans of the next digit and of the own one, as the code makes them
 abbrev scaled : tie.After-scale → tie.Else4
@@ -183,7 +180,7 @@ survey :
     → let s = counted (ranged (held (c .before))) in c .survey-check .result ≡ surveyOf (matrix (shape s)) (place s .check) (place s .column)
 survey c =
     let s = counted (ranged (held (c .before))) in
-    c .survey-check .ensures ∙ ap (λ cs. surveyOf cs (place s .check) (place s .column)) (s .pre .2)
+    c .survey-check .ensures ∙ ap (λ cs. surveyOf cs (place s .check) (place s .column)) (s .pre .0 .matrix)
 
 -- q / ρ^z, from the own span
 module _ (c : tie.Else6) where
@@ -208,21 +205,25 @@ index c =
     (index-as (skip s) (shape s) (place s .check) (place s .digit) (place s .column) (place s .factor) (c .index-of .result)
     (c .index-of .ensures) (c .before .scale2 .ensures ∙ reach x) (own-next (x .before .before)) (own-span (x .before .before)) (survey (c .before .before)))
 
+-- no such check row
 returns : tie.Need-returns
 returns c =
     let s = c .before .before .before in
     misplaced s (λ at. omega (arith, at .0 .check, all-checks s))
 
+-- no such digit
 returns-2 : tie.Need-returns-2
 returns-2 c =
     let s = one (c .before .before) in
     misplaced s (λ at. omega (arith, at .0 .digit))
 
+-- a digit that is skipped
 returns-3 : tie.Need-returns-3
 returns-3 c =
     let s = one (two (c .before)) in
     misplaced s (λ at. omega (arith, at .0 .unskipped))
 
+-- no such column
 returns-4 : tie.Need-returns-4
 returns-4 c =
     let s = one (two (c .before .before)) in
@@ -240,6 +241,7 @@ power-of-two-requires c κs = omega (arith, check-high (c .before .before))
 div-if5 : tie.Need-div-if5
 div-if5 c = omega (arith, c .power-of-two .ensures, pow-pos (place (counted (c .before .before .before)) .check))
 
+-- no one there
 returns-5 : tie.Need-returns-5
 returns-5 c = misplaced (counted (c .before .before .before .before)) (λ at. omega (arith, at .0 .held, bit-read (c .before)))
 
@@ -262,6 +264,7 @@ mul-span c = let s = counted (scaled c) in omega (arith, own-span c, span-high (
 is-factor-requires : tie.Need-is-factor-requires
 is-factor-requires c κs = radix-some (counted (scaled c))
 
+-- no such factor
 returns-6 : tie.Need-returns-6
 returns-6 c =
     let s = counted (scaled (c .before .before)) in
@@ -273,8 +276,10 @@ returns-6 c =
 survey-check-requires : tie.Need-survey-check-requires
 survey-check-requires c κs =
     let x = ranged (held c) in
-    let s = counted x in
-    omega (arith, all-columns s, columns-high (shape s) (taken s), check-high x, x .if4 .left)
+    let s = counted x in (
+      record { few = omega (arith, all-columns s, columns-high (shape s) (taken s)); check = check-high x },
+      omega (arith, x .if4 .left),
+    )
 
 -- q / ρ^z is at most 256
 scale-requires-2 : tie.Need-scale-requires-2
@@ -289,19 +294,24 @@ index-of-requires c κs =
     let d = place s .digit in
     let p = placed x in
     let high = span-high (shape s) (taken s) d in
-    let reached = c .scale2 .ensures ∙ reach x in (
-      omega (
-        arith,
-        reached,
-        span-less (shape s) (taken s) (skip s) (omega (arith, p .digit, p .unskipped)),
-        span-high (shape s) (taken s) (skip s),
-      ),
-      radix-some s,
-      (omega (arith, p .high), p .undivided),
-      (omega (arith, own-next (x .before .before), span-less (shape s) (taken s) d (p .digit)), omega (arith, own-span (x .before .before))),
-      survey-high (matrix (shape s)) (place s .check) (place s .column) (survey (c .before))
-          (omega (arith, matrixClaim (shape s) (taken s) .sized, columns-high (shape s) (taken s))) (check-high (ranged (held x))),
-    )
+    let reached = c .scale2 .ensures ∙ reach x in
+    let counts = survey-high (matrix (shape s)) (place s .check) (place s .column) (survey (c .before))
+    (omega (arith, matrixClaim (shape s) (taken s) .sized, columns-high (shape s) (taken s))) (check-high (ranged (held x))) in
+    record {
+      span =
+          record {
+            low = omega (arith, reached, span-less (shape s) (taken s) (skip s) (omega (arith, p .digit, p .unskipped)));
+            high = omega (arith, reached, span-high (shape s) (taken s) (skip s));
+          };
+      radix = radix-some s;
+      factor = omega (arith, p .high);
+      undivided = p .undivided;
+      some = omega (arith, own-next (x .before .before), span-less (shape s) (taken s) d (p .digit));
+      fits = omega (arith, own-span (x .before .before));
+      before = counts .0;
+      size = counts .1;
+      rank = counts .2;
+    }
 
 -- the index is below the cycle's length
 add-if7 : tie.Need-add-if7
@@ -311,11 +321,13 @@ add-if7 c =
     let below = place-entry (skip s) (shape s) (taken s) _ (place s) (placed x, refl) .0 in
     omega (arith, index c, below, lookups-high (skip s) (shape s) (taken s))
 
+-- not at this count
 returns-7 : tie.Need-returns-7
 returns-7 c =
     let s = begun (c .before .before .before .before) in
     misplaced s (λ at. c .if7 .taken (index (c .before) ∙ at .1))
 
+-- found
 returns-8 : tie.Need-returns-8
 unfolding supportSize rank support
 returns-8 c =

@@ -41,6 +41,7 @@ same-length-4 c = search needs
 same-length-5 : tie.Need-same-length-5
 same-length-5 c = search needs
 
+-- what is stored
 returns : tie.Need-returns
 unfolding clearCall
 returns c =

@@ -29,6 +29,7 @@ store-requires c κs = search needs
 same-length : tie.Need-same-length
 same-length c = search needs
 
+-- what is stored
 returns : tie.Need-returns
 unfolding commitCall
 returns c =

@@ -38,6 +38,7 @@ same-length-3 c = search needs
 same-length-4 : tie.Need-same-length-4
 same-length-4 c = search needs
 
+-- what is stored
 returns : tie.Need-returns
 unfolding cycleCall
 returns c =

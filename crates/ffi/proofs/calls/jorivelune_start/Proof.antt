@@ -35,6 +35,7 @@ same-length-2 c = search needs
 same-length-3 : tie.Need-same-length-3
 same-length-3 c = search needs
 
+-- what is stored
 returns : tie.Need-returns
 unfolding startCall
 returns c =

@@ -14,6 +14,7 @@ tell-requires c κs = search needs
 same-length : tie.Need-same-length
 same-length c = search needs
 
+-- number and value
 returns : tie.Need-returns
 unfolding askCall
 returns c =

@@ -14,6 +14,7 @@ number-of-requires c κs = search needs
 same-length : tie.Need-same-length
 same-length c = search needs
 
+-- the outcome's number
 returns : tie.Need-returns
 unfolding readCall
 returns c =

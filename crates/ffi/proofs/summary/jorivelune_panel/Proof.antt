@@ -5,6 +5,7 @@ use borrow.Author.Needs.{needs}
 use Rattle.parity.specs.Questions.{firstNo}
 use Rattle.parity.specs.declared.Shape.{Shape}
 use Rattle.shape.specs.declared.answer.First.{First}
+use Rattle.array_memory.specs.Lengths.{flaggedLengths}
 use Rattle.array_memory.specs.Memory.{Memory, withFlagged}
 use Rattle.panel.specs.Panel.{noReading, panelReading, panelQuestions, panelCall}
 use Rattle.panel.specs.Answers.{panelSays}
@@ -15,7 +16,7 @@ use Rattle.ffi.proofs.summary.jorivelune_panel.Tie as tie
 
 panel-told : (s : Shape) (mem : Memory) → Told (panelCall s mem)
 unfolding panelCall
-panel-told s mem = answering-told noReading (firstNo (panelQuestions s mem)) (panelReading (mem .flags) (mem .totals))
+panel-told s mem = answering-told noReading (firstNo (panelQuestions s (flaggedLengths mem))) (panelReading (mem .flags) (mem .totals))
 
 -- what the call says where its row is known
 module _ (c : tie.After-panel) where
@@ -48,12 +49,15 @@ enum-told c = search needs
 enum-known-found-2 : tie.Need-enum-known-found-2
 enum-known-found-2 c = search needs
 
+-- a row
 returns : tie.Need-returns
 returns c = told (c .before .before .before) _ (c .before .found .given .1)
 
+-- none flagged
 returns-2 : tie.Need-returns-2
 returns-2 c = told (c .before .before) _ (c .enum-told .given .1)
 
+-- refused
 returns-3 : tie.Need-returns-3
 returns-3 c = told (c .before .before .before) _ (c .before .found2 .given .1)
 

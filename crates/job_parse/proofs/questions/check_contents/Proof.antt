@@ -10,11 +10,11 @@ use lib.ListN.{length, take, drop}
 use borrow.Author.Needs.{needs}
 use borrow.Author.Tests.{le-leb, lt-leb, eq-eqb, ne-eqb, not-true, not-false}
 use Rattle.parity.specs.Lists.{every}
-use Rattle.parity.specs.Questions.{Question, firstNo, levelsQuestion}
+use Rattle.parity.specs.Shape.{levels, cellCount}
+use Rattle.parity.specs.Questions.{Question, question, firstNo, levelsQuestion}
 use Rattle.parity.specs.declared.Shape.{Shape}
-use Rattle.array_memory.specs.Memory.{cellCount}
-use Rattle.array_memory.proofs.RowPlaces.{cells-high}
-use Rattle.job_parse.specs.Parse.{twoAt, contentsQuestions}
+use Rattle.shape.proofs.Refusals.{levels-tested}
+use Rattle.job_parse.specs.Parse.{twoAt, mostCells, contentsQuestions}
 use Rattle.job_parse.proofs.Sizes.{levels-fit}
 use Rattle.job_parse.proofs.questions.check_contents.Statement.{statement}
 use Rattle.job_parse.proofs.questions.check_contents.Tie as tie
@@ -23,9 +23,9 @@ use Rattle.job_parse.proofs.questions.check_contents.Tie as tie
 abbrev asked : List ℕ → Shape → List Question
 asked input s =
     let k = s .rows * s .width in
-    record { number = 13; holds = leb (cellCount s) 16384 }
-    ∷ record { number = 14; holds = leb (8 + k) (length input - 5) && eqb (length input - 5) (8 + k + 4 * twoAt input (11 + k)) }
-    ∷ levelsQuestion s (take k (drop 11 input))
+    question 13 (leb (cellCount s) mostCells)
+    ∷ question 14 (leb (8 + k) (length input - 5) && eqb (length input - 5) (8 + k + 4 * twoAt input (11 + k)))
+    ∷ levelsQuestion (levels s) (take k (drop 11 input))
     ∷ []
 
 module _ (start : tie.Start) where
@@ -35,13 +35,8 @@ module _ (start : tie.Start) where
   answered n e = sym e ∙ ap (λ s. firstNo (asked (start .args .input .now) s)) (start .pre .shape)
 
   -- m × n, as the code has it
-  cells : start .args .shape .rows * start .args .sizes .columns ≡ cellCount (start .args .shape)
-  unfolding cellCount
-  cells = ap (λ z. start .args .shape .rows * z .columns) (start .pre .sizes)
-
-  -- the test of the levels is question 8's
-  tested : (given : List ℕ) → levelsQuestion (start .args .shape) given .holds ≡ every (λ v. ltb v (start .args .sizes .levels)) given
-  tested given = ap (λ z. every (λ v. ltb v (z .levels)) given) (sym (start .pre .sizes))
+  cells : start .args .sizes .cells ≡ cellCount (start .args .shape)
+  cells = ap (λ z. z .cells) (start .pre .sizes)
 
 -- the call's arguments, from the place where the drifts' number is known
 abbrev begun : tie.After-two-at → tie.Start
@@ -58,23 +53,19 @@ last c t e =
     let k = s .rows * s .width in
     answered start (cond t 0 8)
     (simp (
-      le-leb (cellCount s) 16384 (omega (arith, cells start)),
+      le-leb (cellCount s) mostCells (omega (arith, cells start)),
       le-leb (8 + k) (length input - 5) (omega arith),
       eq-eqb (length input - 5) (8 + k + 4 * twoAt input (11 + k)) (omega arith),
-      tested start (take k (drop 11 input))
-          ∙ ap (λ n. every (λ v. ltb v (start .args .sizes .levels)) (take n (drop 11 input))) (sym (add-sub-cancel-left 11 k))
-          ∙ sym (c .all-below .ensures)
+      levels-tested s (ap (λ z. z .levels) (start .pre .sizes)) (take k (drop 11 input))
+          (c .all-below .ensures ∙ ap (λ n. every (λ v. ltb v (start .args .sizes .levels)) (take n (drop 11 input))) (add-sub-cancel-left 11 k))
           ∙ e,
     ))
 
-mul-if1 : tie.Need-mul-if1
-unfolding cellCount
-mul-if1 c = omega (arith, cells (c .before), cells-high (c .before .args .shape) (c .before .pre .taken))
-
+-- too many cells
 returns : tie.Need-returns
 returns c =
     let start = c .before .before in
-    answered start 13 (simp (lt-leb (cellCount (start .args .shape)) 16384 (omega (arith, cells start))))
+    answered start 13 (simp (lt-leb (cellCount (start .args .shape)) mostCells (omega (arith, cells start))))
 
 mul-end : tie.Need-mul-end
 mul-end c = omega (arith, levels-fit (c .before .before .args .shape) (c .before .before .pre .taken))
@@ -88,13 +79,14 @@ sub-rest c = search needs
 sub-if2 : tie.Need-sub-if2
 sub-if2 c = search needs
 
+-- levels are missing
 returns-2 : tie.Need-returns-2
 returns-2 c =
     let start = c .before .before .before in
     let s = start .args .shape in
     answered start 14
     (simp (
-      le-leb (cellCount s) 16384 (omega (arith, cells start)),
+      le-leb (cellCount s) mostCells (omega (arith, cells start)),
       lt-leb (8 + s .rows * s .width) (length (start .args .input .now) - 5) (omega arith),
     ))
 
@@ -117,6 +109,7 @@ mul-if3 c = omega (arith, counted c)
 add-if3 : tie.Need-add-if3
 add-if3 c = omega (arith, counted c)
 
+-- another length
 returns-3 : tie.Need-returns-3
 returns-3 c =
     let start = begun (c .before) in
@@ -125,7 +118,7 @@ returns-3 c =
     let k = s .rows * s .width in
     answered start 14
     (simp (
-      le-leb (cellCount s) 16384 (omega (arith, cells start)),
+      le-leb (cellCount s) mostCells (omega (arith, cells start)),
       le-leb (8 + k) (length input - 5) (omega arith),
       ne-eqb (length input - 5) (8 + k + 4 * twoAt input (11 + k)) (λ e. omega arith),
     ))
@@ -142,9 +135,11 @@ part-all-below-end c = search needs
 all-below-requires : tie.Need-all-below-requires
 all-below-requires c κs = search needs
 
+-- a level's no
 returns-4 : tie.Need-returns-4
 returns-4 c = last (c .before) false (not-true _ (c .if4 .taken))
 
+-- all passed
 returns-5 : tie.Need-returns-5
 returns-5 c = last (c .before) true (not-false _ (c .if4 .left))
 
@@ -152,7 +147,6 @@ pub check-contents-spec : {M : Type 1} → statement M
 check-contents-spec =
     tie.close
     (tie.spec
-    mul-if1
     returns
     mul-end
     add-end

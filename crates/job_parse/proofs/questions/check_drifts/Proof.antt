@@ -112,6 +112,7 @@ loop-holds c = (0, omega (arith, sized (c .before .before)), omega arith, refl)
 two-at-requires : tie.Need-two-at-requires Inv-loop μ-loop
 two-at-requires c κs = omega arith
 
+-- no such row
 returns : tie.Need-returns Inv-loop μ-loop
 returns c =
     let turn = c .before .before in
@@ -128,6 +129,7 @@ shared-slice-read-wide c = omega arith
 wide-requires : tie.Need-wide-requires Inv-loop μ-loop
 wide-requires c κs = search needs
 
+-- no such column
 returns-2 : tie.Need-returns-2 Inv-loop μ-loop
 returns-2 c =
     let turn = column-turn (c .before) in
@@ -144,6 +146,7 @@ shared-slice-read-wide-2 c = omega arith
 wide-requires-2 : tie.Need-wide-requires-2 Inv-loop μ-loop
 wide-requires-2 c κs = search needs
 
+-- a level's no
 returns-3 : tie.Need-returns-3 Inv-loop μ-loop
 returns-3 c =
     let turn = level-turn (c .before) in
@@ -169,6 +172,7 @@ loop-again c =
           (all-yes (input turn) (number turn) (omega arith) (omega arith) (omega arith)),
     )
 
+-- all passed
 returns-4 : tie.Need-returns-4 Inv-loop μ-loop
 unfolding driftQuestions
 returns-4 c =

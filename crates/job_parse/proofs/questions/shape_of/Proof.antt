@@ -43,6 +43,7 @@ wide-requires-4 c κs = search needs
 two-at-requires : tie.Need-two-at-requires
 two-at-requires c κs = search needs
 
+-- every field
 returns : tie.Need-returns
 returns c =
     let errors = c .before .before .before in

@@ -30,6 +30,7 @@ add-result c =
     let bytes = c .before .shared-slice-known3 .given in
     omega (arith, bytes at, bytes (at + 1), first .wide .ensures, c .wide2 .ensures)
 
+-- both bytes
 returns : tie.Need-returns
 returns c = search needs
 

@@ -1,4 +1,4 @@
--- `job_text::print::put_head` meets its contract: three words, each with its number, and the end of the line, one behind another. Assumes nothing.
+-- `job_text::print::put_head` meets its contract: three words, each with its number, and the end of the line, one after another. Assumes nothing.
 use mathlib.Core.List.{List, _++_, append-assoc}
 use Prim.Native.Nat.{ℕ, _≤_}
 use native.Mathlib.Omega.{arith}
@@ -11,7 +11,7 @@ use Rattle.job_text.proofs.Written.{wrote-append}
 use Rattle.job_text.proofs.print.put_head.Statement.{statement}
 use Rattle.job_text.proofs.print.put_head.Tie as tie
 
--- a word and a number behind what stands
+-- a word and a number after what stands
 wrote-item :
     {mid end : ℕ} {a out now now′ : List ℕ} (word : List ℕ) (number : ℕ) → mid ≤ length out → Wrote 0 a out mid now
     → Wrote mid (word ++ decimal number) now end now′ → Wrote 0 (a ++ word ++ decimal number) out end now′

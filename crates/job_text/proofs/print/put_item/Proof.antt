@@ -1,4 +1,4 @@
--- `job_text::print::put_item` meets its contract: the number is written behind the word. Assumes nothing.
+-- `job_text::print::put_item` meets its contract: the number is written after the word. Assumes nothing.
 use native.Mathlib.Omega.{arith}
 use borrow.Author.Needs.{needs}
 use Rattle.job_text.proofs.Written.{wrote-append}

@@ -1,4 +1,4 @@
--- `job_text::print::put_refusal` meets its contract: the end of the line is written behind the word and the number. Assumes nothing.
+-- `job_text::print::put_refusal` meets its contract: the end of the line is written after the word and the number. Assumes nothing.
 use native.Mathlib.Omega.{arith}
 use borrow.Author.Needs.{needs}
 use Rattle.job_text.specs.Text.{refusedWord, refusedText}

@@ -1,4 +1,4 @@
--- `job_text::print::put_row` meets its contract: the word for the flag is written behind the row's number. Assumes nothing.
+-- `job_text::print::put_row` meets its contract: the word for the flag is written after the row's number. Assumes nothing.
 use mathlib.Core.Path.{_≡_}
 use mathlib.Core.Bool.{Bool, true, false, cond}
 use mathlib.Core.List.{List, _++_}
@@ -15,7 +15,7 @@ use Rattle.job_text.proofs.Written.{wrote-append}
 use Rattle.job_text.proofs.print.put_row.Statement.{statement}
 use Rattle.job_text.proofs.print.put_row.Tie as tie
 
--- the word and the row's number, and the line's last word behind them
+-- the word and the row's number, and then the line's last word
 row-wrote :
     (at row flag : ℕ) (out : List ℕ) (ok : Bool) {mid end : ℕ} {now now′ : List ℕ} → eqb flag 0 ≡ ok → at + 40 ≤ length out
     → Wrote at (rowWord ++ decimal row) out mid now → Wrote mid (cond ok okWord flaggedWord) now end now′
@@ -51,6 +51,7 @@ put-requires c κs = omega (arith, fits (c .before .before .before))
 same-length : tie.Need-same-length
 same-length c = search needs
 
+-- not flagged
 returns : tie.Need-returns
 returns c =
     let put = c .before .before in
@@ -69,6 +70,7 @@ put-requires-2 c κs = omega (arith, fits (c .before .before .before))
 same-length-2 : tie.Need-same-length-2
 same-length-2 c = search needs
 
+-- flagged
 returns-2 : tie.Need-returns-2
 returns-2 c =
     let put = c .before .before in

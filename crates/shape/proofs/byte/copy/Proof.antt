@@ -49,6 +49,7 @@ loop-holds c = ((omega arith, omega arith), refl, refl)
 same-length : tie.Need-same-length Inv-loop μ-loop
 same-length c = omega arith
 
+-- no more to copy
 returns : tie.Need-returns Inv-loop μ-loop
 returns c =
     let args = c .before .before .before .args in
@@ -81,6 +82,7 @@ loop-again c =
 same-length-2 : tie.Need-same-length-2 Inv-loop μ-loop
 same-length-2 c = omega arith
 
+-- all copied
 returns-2 : tie.Need-returns-2 Inv-loop μ-loop
 returns-2 c =
     let args = c .before .before .args in

@@ -39,8 +39,9 @@ loop-less c = omega arith
 
 loop-again : tie.Need-loop-again Inv-loop μ-loop
 loop-again c =
-    let loop = c .before .before .before .before .loop in
-    let args = c .before .before .before .before .before .args in
+    let turn = c .before .before .before .before in
+    let loop = turn .loop in
+    let args = turn .before .args in
     let one = args .one .now in
     let other = args .other .now in
     let shown = ap (λ n. differences (take n one) (take n other)) (add-one (loop .i)) in

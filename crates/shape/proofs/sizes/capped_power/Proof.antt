@@ -28,6 +28,7 @@ mul-power c =
 add-result : tie.Need-add-result Inv-loop μ-loop
 add-result c = omega arith
 
+-- above the limit
 returns : tie.Need-returns Inv-loop μ-loop
 returns c =
     let ρ = c .before .before .before .args .radix in
@@ -50,6 +51,7 @@ loop-again c =
     let turn = c .before .before .loop in
     (omega arith, ap (λ x. x * ρ) (turn .inv .1) ∙ sym (pow-suc ρ (turn .i)) ∙ ap (λ x. ρ ^ x) (sym (add-one (turn .i))), c .if1 .left)
 
+-- the whole power
 returns-2 : tie.Need-returns-2 Inv-loop μ-loop
 returns-2 c =
     let ρ = c .before .before .args .radix in

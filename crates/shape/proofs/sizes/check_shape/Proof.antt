@@ -31,14 +31,17 @@ capped-low x = go (leb x 256) refl
 abbrev begun : tie.After-capped-power → tie.Start
 begun c = c .before .before .before .before
 
+-- ρ too small
 returns : tie.Need-returns
 unfolding shapeRefusal
 returns c = let s = c .before .args .shape in simp (range-low 2 (s .radix) (s .radix) 255 (omega arith))
 
+-- ρ too large
 returns-2 : tie.Need-returns-2
 unfolding shapeRefusal
 returns-2 c = let s = c .before .before .args .shape in simp (range-high 2 (s .radix) (s .radix) 255 (omega arith))
 
+-- no digits
 returns-3 : tie.Need-returns-3
 unfolding shapeRefusal
 returns-3 c =
@@ -48,6 +51,7 @@ returns-3 c =
 capped-power-requires : tie.Need-capped-power-requires
 capped-power-requires c κs = search needs
 
+-- q too large
 returns-4 : tie.Need-returns-4
 unfolding shapeRefusal levels
 returns-4 c =
@@ -61,6 +65,7 @@ check-columns-requires c κs =
     let s = begun (c .before) .args .shape in
     c .before .capped-power .ensures ∙ capped-low (s .radix ^ s .digits) (omega (arith, c .before .capped-power .ensures)) .0
 
+-- the other questions
 returns-5 : tie.Need-returns-5
 unfolding shapeRefusal levels
 returns-5 c =

@@ -3,6 +3,7 @@ use mathlib.Core.Path.{_≡_, refl, sym, _∙_, ap}
 use Prim.Native.Nat.{ℕ, _-_, _≤_}
 use native.Mathlib.Omega.{arith}
 use lib.Dec.{leb}
+use borrow.Author.Needs.{needs}
 use borrow.Author.Tests.{le-leb, lt-leb}
 use Rattle.parity.specs.Shape.{largest, redundancy}
 use Rattle.shape.proofs.Search.{searched, search-found, search-missed}
@@ -24,8 +25,9 @@ unfolding redundancy
 loop-holds c = (omega arith, omega arith, refl)
 
 carried-requires : tie.Need-carried-requires Inv-loop μ-loop
-carried-requires c κs = omega arith
+carried-requires c κs = search needs
 
+-- r carries k
 returns : tie.Need-returns Inv-loop μ-loop
 returns c =
     let args = c .before .before .before .before .args in
@@ -53,6 +55,7 @@ loop-again c =
           ∙ c .before .before .before .loop .inv .2,
     )
 
+-- none does
 returns-2 : tie.Need-returns-2 Inv-loop μ-loop
 returns-2 c =
     let args = c .before .before .args in

@@ -1,0 +1,2 @@
+-- The laws on lists of calls that the crates above cite.
+pub mod Runs

@@ -1,0 +1,30 @@
+-- Only serves the code's own contracts: the test that is next, and the buffers that a lookup is made on.
+use mathlib.Core.Path.{_≡_}
+use mathlib.Core.Bool.{Bool}
+use Prim.Native.Nat.{ℕ}
+use Rattle.parity.specs.Shape.{columns as columnsOf}
+use Rattle.parity.specs.Questions.{Taken}
+use Rattle.parity.specs.declared.Shape.{Shape}
+use Rattle.array_memory.specs.Blocks.{blocksOf}
+use Rattle.array_memory.specs.Lengths.{Sized}
+use Rattle.array_memory.specs.Memory.{Memory}
+use Rattle.cycle_place.specs.Walk.{Stands, testOf}
+use Rattle.cycle_place.specs.declared.Place.{Place}
+
+-- a test's place on a shape taken, the number of columns, and whether rows are flagged after the test
+pub record TestNext (z : ℕ) (s : Shape) (p : Place) (n : ℕ) (last : Bool) : Type 0 where
+  pub taken : Taken s
+  pub columns : n ≡ columnsOf s
+  pub stands : Stands z s p
+  pub ends : last ≡ testOf z s p .flags
+
+-- buffers of their lengths, and m match bytes
+pub record RowsLent (s : Shape) (mem : Memory) (bytes : ℕ) : Type 0 where
+  pub memory : Sized s mem
+  pub matches : bytes ≡ s .rows
+
+-- what the opening is lent: as many flags and match bytes as lines, and the totals of their blocks
+pub record FlagsLent (lineCount flagCount totalCount matchCount : ℕ) : Type 0 where
+  pub matches : lineCount ≡ matchCount
+  pub flags : lineCount ≡ flagCount
+  pub totals : totalCount ≡ blocksOf flagCount
