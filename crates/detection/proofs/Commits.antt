@@ -49,7 +49,8 @@ ask-unlogged s l row given buffer = if-either (λ k. k ≡ l) (firstNo (askArgum
 
 pub askClaim : AskClaim
 askClaim s before rest row given buffer =
-    same-lists s (ask row given buffer ∷ rest) rest (λ st. ap (λ st. followed (after s) st rest) (ask-leaves s st row given buffer)) (λ l. ap (λ l. followed (logCall s) l rest) (ask-unlogged s l row given buffer)) before
+    same-lists s (ask row given buffer ∷ rest) rest (λ st. ap (λ st. followed (after s) st rest) (ask-leaves s st row given buffer))
+    (λ l. ap (λ l. followed (logCall s) l rest) (ask-unlogged s l row given buffer)) before
 
 -- ---- a finished row, of levels that programming takes
 module _ (s : Shape) (t : Taken s) (given : List ℕ) (sized : length given ≡ s .width) (below : Below (levels s) (s .width) given) where

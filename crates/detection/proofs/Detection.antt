@@ -25,7 +25,7 @@ use Rattle.cycle.specs.Calls.{State}
 use Rattle.cycle.specs.declared.Cycle.{Cycle}
 use Rattle.call_lists.specs.Run.{Call, run}
 use Rattle.detection.specs.Log.{Course, none, open-cycle, ended, Log, log}
-use Rattle.detection.specs.Claims.{coursePhase, RightFlag, wroteAt, standsAt, DetectionClaim, DemandClaim, CoarseClaim, LevelsClaim}
+use Rattle.detection.specs.Claims.{coursePhase, RightFlag, wroteAt, standsAt, lineAt, flagAt, DetectionClaim, DemandClaim, CoarseClaim, LevelsClaim}
 use Rattle.cycle.proofs.CycleRecord.{record-open, record-complete}
 use Rattle.cycle.proofs.Steps.{tallyAt, tallies-ended}
 use Rattle.detection.proofs.Agreement.{Cells, Running, InCourse, Agrees, cells-below, written-row, standing-row, row-stands, agrees-fresh}
@@ -178,8 +178,8 @@ detectionClaim s t calls =
       told = λ (is, off). ended-flag s t st l a is off;
       verdict =
           λ (is, off) i h near.
-          right-flag s t (l .cycle .skip) (course-ended s t st l a is .0 .partial) (getD (l .rows .lines) i 0) (getD (l .rows .written) i []) (getD (l .rows .standing) i [])
-          (getD (st .memory .flags) i 0) (written-row s _ _ _ (a .rows) i h) (standing-row s _ _ _ (a .rows) i h) near (ended-flag s t st l a is off i h);
+          right-flag s t (l .cycle .skip) (course-ended s t st l a is .0 .partial) (lineAt s calls i) (wroteAt s calls i) (standsAt s calls i)
+          (flagAt s calls i) (written-row s _ _ _ (a .rows) i h) (standing-row s _ _ _ (a .rows) i h) near (ended-flag s t st l a is off i h);
       dead = λ (is, off) i h dead. ended-flag s t st l a is off i h ∙ dead-flag (getD (l .rows .lines) i 0) dead _;
     }
 

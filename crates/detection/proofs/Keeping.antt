@@ -237,7 +237,9 @@ module _ (s : Shape) (t : Taken s) (st : State) (l : Log) (a : Agrees s st l) wh
       let own = lookupArguments s inputs (length matches) in
       kept with-memory _ matches (st .memory) _ own l (call-rest s [] _ own t (array-lent s (st .memory) lent)) a (λ none. a)
 
-  agrees-stepped : Running s st (l .cycle .skip) (l .cycle .count) (l .marks .changed) → l .cycle .count < cycleSteps (l .cycle .skip) s → Agrees s (stepped s st) (logStep s l)
+  agrees-stepped :
+      Running s st (l .cycle .skip) (l .cycle .count) (l .marks .changed) → l .cycle .count < cycleSteps (l .cycle .skip) s
+      → Agrees s (stepped s st) (logStep s l)
   unfolding stepped steppedMemory lookedUp
   agrees-stepped r h =
       let z : Sized s (stepped s st .memory) = stepped-sized s st lent in
@@ -253,7 +255,9 @@ module _ (s : Shape) (t : Taken s) (st : State) (l : Log) (a : Agrees s st l) wh
       next =
           record {
             partial = r .partial;
-            stands = stands-at (l .cycle .skip) s (suc (l .cycle .count)) _ (stepped-cycle s st (l .cycle .skip) (l .cycle .count) (r .stands .skip) (r .stands .count));
+            stands =
+                stands-at (l .cycle .skip) s (suc (l .cycle .count)) _
+                (stepped-cycle s st (l .cycle .skip) (l .cycle .count) (r .stands .skip) (r .stands .count));
             tallies = λ off. stepped-tallies s st t (l .cycle .skip) (l .cycle .count) h (r .stands .skip) (r .stands .count) (r .tallies off);
           }
 
@@ -274,7 +278,8 @@ module _ (s : Shape) (t : Taken s) (st : State) (l : Log) (a : Agrees s st l) wh
       rw (stands-next (l .cycle .skip) s (l .cycle .count) (st .cycle) (f .0 .stands) ∙ next-open (l .cycle .skip) s t (l .cycle .count) (f .0 .partial) (f .1))
       (agrees-stepped (f .0) (f .1))
   while-open ended f =
-      rw (stands-next (l .cycle .skip) s (l .cycle .count) (st .cycle) (f .0 .stands) ∙ next-complete (l .cycle .skip) s t (l .cycle .count) (le-of-eq (sym (f .1)))) a
+      rw (stands-next (l .cycle .skip) s (l .cycle .count) (st .cycle) (f .0 .stands)
+      ∙ next-complete (l .cycle .skip) s t (l .cycle .count) (le-of-eq (sym (f .1)))) a
 
   agrees-step : (matches : List ℕ) → Agrees s (after s st (step matches)) (logCall s l (step matches))
   agrees-step matches = rw (step-state s st lent t matches) (go (eqb (length matches) (s .rows)))

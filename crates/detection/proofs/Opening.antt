@@ -42,7 +42,8 @@ step-sized : (s : Shape) (st : State) (matches : List ℕ) → firstNo (stepQues
 step-sized s st matches none =
     let lent : List Question = lentQuestions s [] (allLengths (st .memory)) (length matches) in
     let six : Question = lengthsQuestion (allLengths (st .memory)) (allWanted s) in
-    all-sized s (st .memory) (call-passed s [] six (stepArguments s (length matches)) refl (lit< tt) (first-none lent (cycleQuestion s (st .cycle) ∷ []) refl none .0) .lent)
+    all-sized s (st .memory)
+    (call-passed s [] six (stepArguments s (length matches)) refl (lit< tt) (first-none lent (cycleQuestion s (st .cycle) ∷ []) refl none .0) .lent)
 
 pub openingClaim : OpeningClaim
 unfolding stepCall stepped steppedMemory lookedUp entryAt schedule

@@ -84,7 +84,8 @@ module _ (s : Shape) (t : Taken s) (st : State) (l : Log) (a : Agrees s st l) wh
     again-same = sym (encodingClaim s t (wrote i) (wrote-sound .sized) .0 wrote-sound .0)
 
   module _
-      (e : l .cycle .course ≡ ended) (fine : l .cycle .skip ≡ 0) (off : l .marks .changed ≡ false) (lines : (i : ℕ) → i < s .rows → getD (l .rows .lines) i 0 ≡ 0)
+      (e : l .cycle .course ≡ ended) (fine : l .cycle .skip ≡ 0) (off : l .marks .changed ≡ false)
+      (lines : (i : ℕ) → i < s .rows → getD (l .rows .lines) i 0 ≡ 0)
       (near : (i : ℕ) → i < s .rows → getD (st .memory .flags) i 0 ≡ 0 → differences (wrote i) (getD (l .rows .standing) i []) ≤ s .errors) where
     -- a row that is not flagged is sound, and so it is the one that was written
     unflagged-same : (i : ℕ) → i < s .rows → getD (st .memory .flags) i 0 ≡ 0 → getD (l .rows .standing) i [] ≡ wrote i

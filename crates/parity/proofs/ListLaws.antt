@@ -1,5 +1,5 @@
--- Laws of specs/Lists.antt's words: tabulate, joined, keep, sumOver, every and everyTo, of equal elements, and of what holds of each entry of a list of numbers, of
--- each two in their order, and of one among them. Assumes nothing.
+-- Laws of specs/Lists.antt's words: tabulate, joined, keep, sumOver, every and everyTo, of equal elements, and of what holds of each entry of a list of
+-- numbers, of each two in their order, and of one among them. Assumes nothing.
 use mathlib.Core.Path.{_≡_, refl, sym, ap, ap₂, _∙_}
 use mathlib.Core.Logic.{_⊎_, inl, inr, ⊎-elim}
 use mathlib.Core.Bool.{Bool, true, false, cond, _&&_, and-eq-true-iff}

@@ -60,7 +60,8 @@ returns c =
     ask (cellsQuestions s (args .cells) (own ∷ seven ∷ [])) s (row .check2 .result) (c .check-levels .result) _ (levelsQuestion (levels s) given) refl
     (ask (cellsQuestions s (args .cells) (own ∷ [])) s (lengths .check .result) (row .check2 .result) seven seven refl
     (lengths-asked s (args .cells) (shape .check-shape .result) (lengths .check .result) (sizes .sizes .result) _ (shape .check-shape .ensures)
-    (sizes .sizes .ensures) (lengths .check .ensures) (length given ∷ args .finished ∷ []) (λ z. s .width ∷ z .columns ∷ []) (lengths .before .same-lengths .ensures))
+    (sizes .sizes .ensures) (lengths .check .ensures) (length given ∷ args .finished ∷ []) (λ z. s .width ∷ z .columns ∷ [])
+    (lengths .before .same-lengths .ensures))
     (row .check2 .ensures) (λ p. refl))
     (c .check-levels .ensures) (λ p. ap (λ z. levelsQuestion (z .levels) given) (p .sizes))
 

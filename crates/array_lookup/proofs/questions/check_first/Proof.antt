@@ -1,13 +1,8 @@
 -- `array_lookup::questions::check_first` meets its contract: 6 on cells, lines and inputs, then 8. Assumes nothing.
-use mathlib.Core.Path.{refl, ap}
 use mathlib.Core.List.{[], _∷_}
 use lib.ListN.{length}
 use borrow.Author.Needs.{needs}
-use Rattle.parity.specs.Shape.{levels}
-use Rattle.parity.specs.Questions.{shapeQuestions, lengthsQuestion, inputsQuestion}
-use Rattle.shape.proofs.Refusals.{shape-asked, sizes-known, ask}
-use Rattle.shape.proofs.Asking.{both-asked}
-use Rattle.array_lookup.specs.Lookups.{arrayQuestions}
+use Rattle.array_lookup.proofs.Asking.{inputs-asked}
 use Rattle.array_lookup.proofs.questions.check_first.Statement.{statement}
 use Rattle.array_lookup.proofs.questions.check_first.Tie as tie
 
@@ -48,13 +43,9 @@ returns c =
     let args = begun shape .args in
     let s = args .shape in
     let inputs = args .inputs .now in
-    let known = sizes-known s (shape .check-shape .result) (sizes .sizes .result) [] (shape .check-shape .ensures) (sizes .sizes .ensures) in
-    ask (arrayQuestions s (args .cells) (args .lines) (lengthsQuestion (length inputs ∷ []) (s .width ∷ []) ∷ [])) s (lengths .check .result) (c .check-levels .result) _
-    (inputsQuestion (levels s) inputs) refl
-    (both-asked s (shapeQuestions s) refl (shape .check-shape .result) (lengths .check .result) (sizes .sizes .result) _
-    (shape-asked s (shape .check-shape .result) (shape .check-shape .ensures)) known (lengths .check .ensures)
-    (args .cells ∷ args .lines ∷ []) (λ z. z .cells ∷ s .rows ∷ []) (length inputs ∷ []) (λ z. s .width ∷ []) refl (lengths .before .same-lengths .ensures))
-    (c .check-levels .ensures) (λ p. ap (λ z. inputsQuestion (z .levels) inputs) (p .sizes))
+    inputs-asked s (args .cells) (args .lines) (shape .check-shape .result) (lengths .check .result) (c .check-levels .result) (sizes .sizes .result) _
+    inputs (length inputs ∷ []) (s .width ∷ []) (shape .check-shape .ensures) (sizes .sizes .ensures) (lengths .check .ensures)
+    (lengths .before .same-lengths .ensures) (c .check-levels .ensures)
 
 pub check-first-spec : {M : Type 1} → statement M
 check-first-spec =

@@ -28,7 +28,9 @@ elsewhere :
     → Elsewhere ≡ cond (isNext (args .shape) (args .self)) (toldAt (args .self .skip) (args .shape) (args .self .count) (args .self .place)) Elsewhere
 elsewhere c not-next = go (isNext (c .args .shape) (c .args .self)) not-next
   where
-    go : (b : Bool) → (b ≡ true → ⊥) → Elsewhere ≡ cond b (toldAt (c .args .self .skip) (c .args .shape) (c .args .self .count) (c .args .self .place)) Elsewhere
+    go :
+        (b : Bool) → (b ≡ true → ⊥)
+        → Elsewhere ≡ cond b (toldAt (c .args .self .skip) (c .args .shape) (c .args .self .count) (c .args .self .place)) Elsewhere
     go true h = absurd (h refl)
     go false h = refl
 

@@ -77,8 +77,10 @@ returns-2 c =
     let row = written c in
     let sizes = sized (row .before) in
     let start = begun (sizes .before .before) in
-    λ mem. gives-done (questions start) [] (withCells (start .args .cells .now) mem) (start .args .self) _ [] []
-    (rowWritten (start .args .shape) (withCells (start .args .cells .now) mem) (start .args .row) (encode (start .args .shape) (start .args .given .now))) _ idle _ (passed sizes .none)
+    let s = start .args .shape in
+    let lent = start .args .cells .now in
+    λ mem. gives-done (questions start) [] (withCells lent mem) (start .args .self) _ [] []
+    (rowWritten s (withCells lent mem) (start .args .row) (encode s (start .args .given .now))) _ idle _ (passed sizes .none)
     (c .done .ensures) refl (row .write-row .ensures mem) refl
 
 pub program-spec : {M : Type 1} → statement M

@@ -128,8 +128,9 @@ stepped-as start mem c f t = sym (λ i. withAll (start .args .cells .now) (start
 scale-requires : tie.Need-scale-requires
 scale-requires c κs =
     let start = begun (c .before .before) in
-    let limit = limits (start .args .shape) (start .pre .0 .taken) in
-    (omega arith, omega (arith, test-proper (start .args .skip) (start .args .shape) (start .pre .0 .taken) (start .args .place) (start .pre .0 .stands) .input))
+    let next = start .pre .0 in
+    let limit = limits (start .args .shape) (next .taken) in
+    (omega arith, omega (arith, test-proper (start .args .skip) (start .args .shape) (next .taken) (start .args .place) (next .stands) .input))
 
 cast-input : tie.Need-cast-input
 cast-input c =
