@@ -223,7 +223,7 @@ impl Cycle {
         let columns = sizes.columns;
         let checks = sizes.checks;
         let matrix = matrix_of(shape, checks);
-        match self.locate(shape, sizes, &matrix[..columns]) {
+        match self.locate(shape, checks, &matrix[..columns]) {
             Located::Elsewhere => refused(self, 9),
             Located::Opening(next) => {
                 make_opening(lines, flags, totals, matches);

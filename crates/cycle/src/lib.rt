@@ -141,8 +141,8 @@ impl Cycle {
     }
 
     // The lookup at the record's place, if the record is open there with that lookup still to come: question 9.
-    pub(crate) fn locate(self, shape: Shape, sizes: Sizes, matrix: &[u8]) -> Located
-        requires { ⌜ MatrixLent shape sizes (now matrix) ⌝ }
+    pub(crate) fn locate(self, shape: Shape, checks: usize, matrix: &[u8]) -> Located
+        requires { ⌜ MatrixLent shape checks (now matrix) ⌝ }
         ensures { λ r. ⌜ r ≡ cond (isNext shape self) (toldAt (self .skip) shape (self .count) (self .place)) Elsewhere ⌝ }
     {
         let place = self.place;
@@ -154,7 +154,7 @@ impl Cycle {
         if !self.within_longest() {
             return Located::Elsewhere;
         }
-        walk::locate(place, skip, count, shape, sizes, matrix)
+        walk::locate(place, skip, count, shape, checks, matrix)
     }
 
     // The open record after a lookup, by the place of the next one.

@@ -3,11 +3,10 @@ use mathlib.Core.Path.{_≡_}
 use mathlib.Core.Bool.{cond}
 use mathlib.Core.List.{List}
 use Prim.Native.Nat.{ℕ, zero, suc, _<_}
+use Rattle.parity.specs.Shape.{checks as checksOf}
 use Rattle.parity.specs.Matrix.{matrix as matrixOf}
 use Rattle.parity.specs.Questions.{Taken}
 use Rattle.parity.specs.declared.Shape.{Shape}
-use Rattle.shape.specs.Shapes.{sizesOf}
-use Rattle.shape.specs.declared.sizes.Sizes.{Sizes}
 use Rattle.schedule.specs.Schedule.{Entry}
 use Rattle.schedule.specs.Index.{IsPlace, supportSize, rank, span, placeIndex, endsAt, entryOf}
 use Rattle.cycle_place.specs.Places.{nextAt, isPlaceOf}
@@ -54,10 +53,10 @@ locatedAt z s c p = cond (isPlaceOf z s c p) (toldAt z s c p) Elsewhere
 
 -- ---- what the walk asks of its arguments
 
--- a shape taken, its sizes, and its check matrix, column after column
-pub record MatrixLent (s : Shape) (given : Sizes) (columnBytes : List ℕ) : Type 0 where
+-- a shape taken, its r check columns, and its check matrix, column after column
+pub record MatrixLent (s : Shape) (r : ℕ) (columnBytes : List ℕ) : Type 0 where
   pub taken : Taken s
-  pub sizes : given ≡ sizesOf s
+  pub checks : r ≡ checksOf s
   pub matrix : columnBytes ≡ matrixOf s
 
 -- the place of a test, and where it lies

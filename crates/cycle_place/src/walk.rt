@@ -10,12 +10,11 @@ use super::factors::scale;
 use acam::order::power_of_two;
 use parity::Shape;
 use shape::byte::wide;
-use shape::sizes::Sizes;
 ghost use mathlib.Core.Path.{_≡_};
 ghost use mathlib.Core.Bool.{_&&_};
 ghost use Prim.Native.Nat.{ℕ, suc, _<_};
 ghost use lib.Dec.{eqb};
-ghost use Rattle.shape.specs.Shapes.{sizesOf};
+ghost use Rattle.parity.specs.Shape.{checks as checksOf};
 ghost use Rattle.cycle_place.specs.Places.{placeAt, nextAt, samePlace};
 ghost use Rattle.cycle_place.specs.declared.walk.Next.the-variants.{Place as NextPlace};
 ghost use Rattle.cycle_place.specs.Walk.{indexOf, soughtAt, locatedAt, MatrixLent, TestAt, Inside};
@@ -73,10 +72,10 @@ fn locate_test(
     skip: usize,
     count: usize,
     shape: Shape,
-    sizes: Sizes,
+    checks: usize,
     matrix: &[u8],
 ) -> Sought
-    requires { ⌜ MatrixLent shape sizes (now matrix) ⌝ }
+    requires { ⌜ MatrixLent shape checks (now matrix) ⌝ }
     requires { ⌜ 0 < count ⌝ }
     ensures { λ r. ⌜ r ≡ soughtAt skip shape count place ⌝ }
 {
@@ -85,7 +84,7 @@ fn locate_test(
     let column = place.column;
     let factor = place.factor;
     let radix = shape.radix;
-    if sizes.checks <= check {
+    if checks <= check {
         return Sought::Elsewhere;
     }
     if shape.digits <= digit {
@@ -121,7 +120,7 @@ fn locate_test(
 
 // The place of a cycle's first test, which comes after the opening, whatever digits it skips.
 fn first(shape: Shape, matrix: &[u8]) -> Place
-    requires { ⌜ MatrixLent shape (sizesOf shape) (now matrix) ⌝ }
+    requires { ⌜ MatrixLent shape (checksOf shape) (now matrix) ⌝ }
     ensures { λ r. ⌜ ((z : ℕ) → z < shape .digits → nextAt z shape 1 ≡ NextPlace r) ⌝ }
 {
     let digits = shape.digits;
@@ -146,11 +145,11 @@ fn advance(
     place: Place,
     skip: usize,
     shape: Shape,
-    sizes: Sizes,
+    checks: usize,
     matrix: &[u8],
     extent: Extent,
 ) -> Next
-    requires { ⌜ MatrixLent shape sizes (now matrix) ⌝ }
+    requires { ⌜ MatrixLent shape checks (now matrix) ⌝ }
     requires { ⌜ TestAt skip shape place extent ⌝ }
     ensures { λ r. ⌜ r ≡ nextAt skip shape (suc (indexOf skip shape place)) ⌝ }
 {
@@ -173,7 +172,7 @@ fn advance(
         next.column = next_held(matrix, check, 0);
         return Next::Place(next);
     }
-    if check + 1 < sizes.checks {
+    if check + 1 < checks {
         next.check = check + 1;
         next.digit = shape.digits - 1;
         next.column = next_held(matrix, check + 1, 0);
@@ -184,7 +183,7 @@ fn advance(
 
 // The first lookup, if its place is the opening's, all 0, in a cycle that does not skip all digits.
 fn locate_opening(place: Place, skip: usize, shape: Shape, matrix: &[u8]) -> Located
-    requires { ⌜ MatrixLent shape (sizesOf shape) (now matrix) ⌝ }
+    requires { ⌜ MatrixLent shape (checksOf shape) (now matrix) ⌝ }
     ensures { λ r. ⌜ r ≡ locatedAt skip shape 0 place ⌝ }
 {
     if shape.digits <= skip {
@@ -202,20 +201,20 @@ pub fn locate(
     skip: usize,
     count: usize,
     shape: Shape,
-    sizes: Sizes,
+    checks: usize,
     matrix: &[u8],
 ) -> Located
-    requires { ⌜ MatrixLent shape sizes (now matrix) ⌝ }
+    requires { ⌜ MatrixLent shape checks (now matrix) ⌝ }
     ensures { λ r. ⌜ r ≡ locatedAt skip shape count place ⌝ }
 {
     if count == 0 {
         return locate_opening(place, skip, shape, matrix);
     }
-    match locate_test(place, skip, count, shape, sizes, matrix) {
+    match locate_test(place, skip, count, shape, checks, matrix) {
         Sought::Elsewhere => Located::Elsewhere,
         Sought::At(extent) => {
             let ends = ends_digit(extent, place.factor);
-            let next = advance(place, skip, shape, sizes, matrix, extent);
+            let next = advance(place, skip, shape, checks, matrix, extent);
             Located::Test(Here { ends, next })
         }
     }

@@ -7,7 +7,6 @@ use cycle::calls::start_lent;
 use cycle::questions::check_lent;
 use parity::Shape;
 use shape::sizes::Checked;
-use shape::sizes::Sizes;
 use shape::sizes::check_shape;
 ghost use mathlib.Core.Path.{_≡_};
 ghost use lib.ListN.{length, replicate};
@@ -22,11 +21,10 @@ ghost use Rattle.cycle.specs.Methods.{changing, doneWith};
 ghost use Rattle.cycle_run.specs.Cycles.{afterSteps, lastMatches, cycleCall};
 ghost use Rattle.cycle_run.specs.Starts.{Started};
 
-// The steps of a cycle that is just started. The buffers have their lengths, so no step asks for them again.
+// The steps of a cycle that is just started.
 fn run_open(
     cycle: Cycle,
     shape: Shape,
-    sizes: Sizes,
     cells: &[u8],
     lines: &[u8],
     counters: &mut [u8],
@@ -34,7 +32,7 @@ fn run_open(
     totals: &mut [u8],
     matches: &mut [u8],
 ) -> Cycle
-    requires { ⌜ Started shape sizes cycle ⌝ }
+    requires { ⌜ Started shape cycle ⌝ }
     requires { ⌜ RowsLent shape (withAll (now cells) (now lines) (now counters) (now flags) (now totals) noMemory) (length (now matches)) ⌝ }
     ensures { λ r. ⌜ ((mem : Memory) → let st = stateOf (wasAll cells lines counters flags totals mem) cycle in
         giving (accepted 0) (lastMatches (cycle .skip) shape (st .memory))
@@ -43,7 +41,7 @@ fn run_open(
 {
     let mut now = cycle;
     while now.is_open() {
-        let stepped = now.step_lent(shape, sizes, cells, lines, counters, flags, totals, matches);
+        let stepped = now.step(shape, cells, lines, counters, flags, totals, matches);
         now = stepped.cycle;
     }
     now
@@ -80,7 +78,6 @@ pub fn run_cycle(
             done(run_open(
                 started,
                 shape,
-                sizes,
                 cells,
                 lines,
                 counters,

@@ -174,7 +174,6 @@ run-open-requires c κs =
     let s = start .args .shape in (
       record {
         taken = parts told .taken;
-        sizes = asked told .sizes;
         partial = rw (kept begin) (partial told);
         first = sym (opened-cycle begin) ∙ ap (λ z. cycleAt z s 0) (sym (kept begin));
       },
@@ -199,7 +198,7 @@ returns c =
     (door-refused (questions start) (start .args .shape) (answer .check-lent .result) (answered answer) (number .0 .0) (number .1)) (c .refused .ensures)
 
 same-length : tie.Need-same-length
-same-length c = let steps = ran (c .before) in steps .run-open .kept .1 .1 .1 .1 .1 .0 ∙ opened (steps .before) .start-lent .kept .1 .1 .1 .0
+same-length c = let steps = ran (c .before) in steps .run-open .kept .1 .1 .1 .1 .0 ∙ opened (steps .before) .start-lent .kept .1 .1 .1 .0
 
 same-length-2 : tie.Need-same-length-2
 same-length-2 c = search needs
@@ -219,7 +218,7 @@ returns-2 c =
     let start = entry begin in
     let s = start .args .shape in
     let matches = start .args .matches .now in
-    let last = steps .run-open .last .1 .1 .1 .1 .1 in
+    let last = steps .run-open .last .1 .1 .1 .1 in
     λ mem. call-done (questions start) matches (given begin mem) _ (asked (passed begin) .none)
     ∙ ap₂ (λ z st. giving (accepted 0) (lastMatches z s (lent start mem)) (afterSteps s st (replicate (cycleSteps z s) matches))) (sym (kept begin))
     (left begin mem)

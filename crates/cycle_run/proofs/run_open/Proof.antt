@@ -1,30 +1,26 @@
 -- `cycle_run::run_open` meets its contract: the loop's state is one of the cycle's (WholeCycle.antt). The measure is the steps to come.
 -- Assumes nothing.
 use mathlib.Core.Path.{_≡_, sym, _∙_}
-use mathlib.Core.List.{[], _∷_}
 use Prim.Native.Nat.{suc, _-_, _<_}
 use native.Mathlib.Omega.{arith}
-use lib.ListN.{length}
 use borrow.Author.Needs.{needs}
 use Rattle.parity.specs.Matrix.{cycleSteps}
-use Rattle.parity.proofs.Alongside.{equal-alongside}
 use Rattle.array_memory.specs.Memory.{Memory, withAll, noMemory}
 use Rattle.cycle_lookup.specs.Lookup.{entryMatches}
 use Rattle.cycle.specs.Calls.{stateOf}
-use Rattle.cycle.proofs.Asked.{lent-asked}
 use Rattle.cycle_run.specs.Cycles.{lastMatches}
 use Rattle.cycle_run.proofs.WholeCycle.{Going, going-start, going-step, going-end}
 use Rattle.cycle_run.proofs.run_open.Statement.{statement}
 use Rattle.cycle_run.proofs.run_open.Tie as tie
 
 abbrev Inv-loop : tie.InvT-loop
-Inv-loop shape sizes cells lines counters₀ flags₀ totals₀ matches₀ now₀ counters flags totals matches now =
+Inv-loop shape cells lines counters₀ flags₀ totals₀ matches₀ now₀ counters flags totals matches now =
     (mem : Memory)
     → Going (now₀ .skip) shape (stateOf (withAll cells lines counters₀ flags₀ totals₀ mem) now₀) matches₀ (now .count)
     (stateOf (withAll cells lines counters flags totals mem) now) matches
 
 abbrev μ-loop : tie.MeasureT-loop
-μ-loop shape sizes cells lines counters₀ flags₀ totals₀ matches₀ now₀ counters flags totals matches now = cycleSteps (now₀ .skip) shape - now .count
+μ-loop shape cells lines counters₀ flags₀ totals₀ matches₀ now₀ counters flags totals matches now = cycleSteps (now₀ .skip) shape - now .count
 
 -- the places of the call, of a turn's begin and of its step, each from one that follows
 abbrev known : tie.After-slice-known4 Inv-loop μ-loop → tie.After-slice-known Inv-loop μ-loop
@@ -33,7 +29,7 @@ known c = c .before .before .before
 abbrev begun : tie.At-loop Inv-loop μ-loop → tie.Start Inv-loop μ-loop
 begun c = known (c .before) .before .before .before
 
-abbrev opened : tie.After-step-lent-arg4 Inv-loop μ-loop → tie.Then1 Inv-loop μ-loop
+abbrev opened : tie.After-step-arg4 Inv-loop μ-loop → tie.Then1 Inv-loop μ-loop
 opened c = c .before .before .before .before
 
 abbrev looped : tie.Then1 Inv-loop μ-loop → tie.At-loop Inv-loop μ-loop
@@ -45,16 +41,16 @@ matched c = c .before .before .before
 abbrev flagged : tie.After-slice-known7 Inv-loop μ-loop → tie.After-slice-known5 Inv-loop μ-loop
 flagged c = c .before .before .before .before
 
-abbrev stepped : tie.After-now Inv-loop μ-loop → tie.After-step-lent Inv-loop μ-loop
+abbrev stepped : tie.After-now Inv-loop μ-loop → tie.After-step Inv-loop μ-loop
 stepped c = flagged (matched c) .before .before
 
 -- a turn makes the next state of the cycle
 turn :
-    (c : tie.After-step-lent Inv-loop μ-loop)
+    (c : tie.After-step Inv-loop μ-loop)
     → let loop = looped (opened (c .before)) in
     let args = begun loop .args in
-    let now = c .step-lent .result .cycle in
-    let left = c .step-lent .last .1 .1 .1 .1 .1 in
+    let now = c .step .result .cycle in
+    let left = c .step .last .1 .1 .1 .1 in
     (mem : Memory)
     → Going (args .cycle .skip) (args .shape)
     (stateOf (withAll (args .cells .now) (args .lines .now) (args .counters .now) (args .flags .now) (args .totals .now) mem) (args .cycle))
@@ -66,7 +62,7 @@ turn c =
     let loop = looped open-turn in
     let start = begun loop in
     λ mem. going-step (start .args .cycle .skip) (start .args .shape) (start .pre .0 .taken) (start .pre .0 .partial) _ _ (start .pre .1 .matches) _ _ _
-    (loop .loop .inv mem) (sym (open-turn .before .is-open .ensures) ∙ open-turn .if1 .taken) _ (c .step-lent .ensures mem)
+    (loop .loop .inv mem) (sym (open-turn .before .is-open .ensures) ∙ open-turn .if1 .taken) _ (c .step .ensures mem)
 
 loop-holds : tie.Need-loop-holds Inv-loop μ-loop
 loop-holds c =
@@ -76,18 +72,8 @@ loop-holds c =
 is-open-requires : tie.Need-is-open-requires Inv-loop μ-loop
 is-open-requires c κs = search needs
 
-step-lent-requires : tie.Need-step-lent-requires Inv-loop μ-loop
-step-lent-requires c κs =
-    let loop = looped (opened c) in
-    let start = begun loop in
-    let s = start .args .shape in
-    let going = loop .loop .inv noMemory in
-    record {
-      none =
-          lent-asked s (start .pre .0 .taken) (stateOf _ (start .args .cycle)) (going .sized) [] (length (loop .loop .matches))
-          ∙ simp (equal-alongside (length (loop .loop .matches) ∷ []) (s .rows ∷ []) (λ i. going .buffer i ∷ []));
-      sizes = start .pre .0 .sizes;
-    }
+step-requires : tie.Need-step-requires Inv-loop μ-loop
+step-requires c κs = search needs
 
 loop-less : tie.Need-loop-less Inv-loop μ-loop
 loop-less c = let next = turn (stepped c) noMemory in omega arith
@@ -124,7 +110,7 @@ run-open-spec =
     μ-loop
     loop-holds
     is-open-requires
-    step-lent-requires
+    step-requires
     loop-less
     loop-again
     same-length

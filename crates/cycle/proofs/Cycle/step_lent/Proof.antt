@@ -184,7 +184,7 @@ slice-aggregate-locate : tie.Need-slice-aggregate-locate
 slice-aggregate-locate c = matrix-lent (c .before) .sized
 
 locate-requires : tie.Need-locate-requires
-locate-requires c κs = let start = begun (c .before) in record { taken = taken start; sizes = start .pre .sizes; matrix = matrix-lent (c .before) .holds }
+locate-requires c κs = let start = begun (c .before) in record { taken = taken start; checks = ap (λ z. z .checks) (start .pre .sizes); matrix = matrix-lent (c .before) .holds }
 
 enum-told : tie.Need-enum-told
 enum-told c = search needs

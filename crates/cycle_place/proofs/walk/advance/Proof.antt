@@ -63,8 +63,8 @@ module _ (c : tie.Start) where
 
   -- ---- what is given, and the place that is returned
 
-  all-checks : c .args .sizes .checks ≡ checks shape
-  all-checks = ap (λ z. z .checks) (c .pre .0 .sizes)
+  all-checks : c .args .checks ≡ checks shape
+  all-checks = c .pre .0 .checks
 
   own-span : c .args .extent .span ≡ span shape (own .digit)
   own-span = ap (λ z. z .span) (c .pre .1 .extent)
@@ -94,7 +94,7 @@ abbrev factors-done : tie.Else2 → tie.Else1
 factors-done c = c .before .before .before
 
 abbrev columns-done : tie.Then4 → tie.Else2
-columns-done c = c .before .before .before
+columns-done c = c .before .before
 
 last : (c : tie.Else2) → let s = start (factors-done c) in supportSize (shape s) (own s .check) ≤ suc (rank (shape s) (own s .check) (own s .column))
 last c = let s = start (factors-done c) in omega (arith, c .if2 .left, own-size s, own-rank s)
@@ -173,16 +173,16 @@ returns-4 c =
     let s = start x in
     let check = add-one (own s .check) in
     moved s check refl (c .next-held3 .ensures ∙ ap₂ (λ cs ℓ. heldFrom cs ℓ 0) (s .pre .0 .matrix) check) refl
-    (follow-check (skip s) (shape s) (taken s) (own s) (place s) (past x) (last y) (lowest (then .before .before))
+    (follow-check (skip s) (shape s) (taken s) (own s) (place s) (past x) (last y) (lowest (then .before))
     (omega (arith, then .if4 .taken, all-checks s)))
 
 -- the end
 returns-5 : tie.Need-returns-5
 returns-5 c =
-    let y = c .before .before .before in
+    let y = c .before .before in
     let x = factors-done y in
     let s = start x in
-    sym (follow-end (skip s) (shape s) (taken s) (own s) (place s) (past x) (last y) (lowest (c .before .before))
+    sym (follow-end (skip s) (shape s) (taken s) (own s) (place s) (past x) (last y) (lowest (c .before))
     (omega (arith, c .if4 .left, all-checks s)))
 
 pub advance-spec : {M : Type 1} → statement M

@@ -56,7 +56,7 @@ module _ (c : tie.After-known-told) where
 locate-opening-requires : tie.Need-locate-opening-requires
 locate-opening-requires c κs =
     let given = c .before .before .pre in
-    record { taken = given .taken; sizes = refl; matrix = given .matrix }
+    record { taken = given .taken; checks = refl; matrix = given .matrix }
 
 -- the first lookup
 returns : tie.Need-returns

@@ -88,8 +88,8 @@ module _ (c : tie.Start) where
 
   -- ---- what is given
 
-  all-checks : c .args .sizes .checks ≡ checks shape
-  all-checks = ap (λ z. z .checks) (c .pre .0 .sizes)
+  all-checks : c .args .checks ≡ checks shape
+  all-checks = c .pre .0 .checks
 
   all-columns : length (c .args .matrix .now) ≡ columns shape
   all-columns = ap length (c .pre .0 .matrix) ∙ matrixClaim shape taken .sized
@@ -116,7 +116,7 @@ module _ (c : tie.Start) where
 -- ---- what the tests leave
 
 abbrev one : tie.Else1 → tie.Start
-one c = c .before .before .before
+one c = c .before .before
 
 abbrev two : tie.Else2 → tie.Else1
 two c = c .before .before
@@ -208,7 +208,7 @@ index c =
 -- no such check row
 returns : tie.Need-returns
 returns c =
-    let s = c .before .before .before in
+    let s = c .before .before in
     misplaced s (λ at. omega (arith, at .0 .check, all-checks s))
 
 -- no such digit
