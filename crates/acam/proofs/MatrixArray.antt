@@ -37,16 +37,21 @@ module _ (s : Shape) (t : Taken s) where
   array-matrix = take-at (matrix s) (replicate (255 - columns s) 0) (columns s) (matrixClaim s t .sized)
 
 module _ (s : Shape) (t : Taken s) (r : ℕ) (counted : r ≡ checks s) where
-  pub fits : s .width + r ≤ 255
+  -- k + r columns are all
+  pub wide : s .width + r ≡ columns s
   unfolding columns
-  fits = omega (arith, columns-high s t)
+  wide = ap (λ r. s .width + r) counted
 
-  -- the part of the array that is lent for the rule columns: its length, what fills it, and what the filling asks for
-  pub front : length (take (s .width) zeros) ≡ s .width
-  front = length-take-le (s .width) zeros (omega (arith, fits))
+  pub fits : s .width + r ≤ 255
+  fits = omega (arith, wide, columns-high s t)
 
-  pub rules-fill : ruleColumns (s .errors) r (length (take (s .width) zeros)) ≡ ruleColumns (s .errors) (checks s) (s .width)
-  rules-fill = ap₂ (ruleColumns (s .errors)) counted front
+  -- the part of a list that is lent for the rule columns: its length, what fills it, and what the filling asks for
+  module _ (over : List ℕ) (long : s .width ≤ length over) where
+    pub front : length (take (s .width) over) ≡ s .width
+    front = length-take-le (s .width) over long
 
-  pub rules-ask : RulesFit (s .errors) r (length (take (s .width) zeros))
-  rules-ask = record { checks = omega (arith, redundancyClaim s t .high); enough = ap length rules-fill ∙ rules-sized s t ∙ sym front }
+    pub rules-fill : ruleColumns (s .errors) r (length (take (s .width) over)) ≡ ruleColumns (s .errors) (checks s) (s .width)
+    rules-fill = ap₂ (ruleColumns (s .errors)) counted front
+
+    pub rules-ask : RulesFit (s .errors) r (length (take (s .width) over))
+    rules-ask = record { checks = omega (arith, redundancyClaim s t .high); enough = ap length rules-fill ∙ rules-sized s t ∙ sym front }

@@ -12,7 +12,7 @@ module _ (a : ℕ) (xs : List ℕ) where
   tail-is = take-all (length xs - a) (drop a xs) (omega (arith, length-drop a xs))
 
   module _ (ys : List ℕ) (h : a ≤ length xs) where
-    tail-back : putMid a (length xs - a) xs ys ≡ take a xs ++ ys
+    pub tail-back : putMid a (length xs - a) xs ys ≡ take a xs ++ ys
     tail-back = ap (λ zs. take a xs ++ (ys ++ zs)) (post-is a (length xs) xs h ∙ drop-length xs) ∙ ap (λ zs. take a xs ++ zs) (append-nil ys)
 
     -- the part is what was written

@@ -16,11 +16,11 @@ pub record TakenWith (s : Shape) (r : ℕ) : Type 0 where
   pub taken : Taken s
   pub checks : r ≡ checksOf s
 
--- a row of n cells to encode
-pub record ToEncode (s : Shape) (r cellCount : ℕ) : Type 0 where
+-- a shape taken, its r check columns, and its n columns in all, by the number of what is lent for them
+pub record Measured (s : Shape) (r n : ℕ) : Type 0 where
   pub taken : Taken s
   pub checks : r ≡ checksOf s
-  pub cells : cellCount ≡ columnsOf s
+  pub columns : n ≡ columnsOf s
 
 -- a row of n cells, and the columns of its k rule cells
 pub record RulesLent (s : Shape) (cellCount : ℕ) (ruleBytes : List ℕ) : Type 0 where

@@ -10,7 +10,7 @@ ghost use lib.ListN.{length, take};
 ghost use Rattle.parity.specs.Lists.{tabulate};
 ghost use Rattle.parity.specs.Codeword.{encode};
 ghost use Rattle.acam.specs.Digits.{completed};
-ghost use Rattle.acam.specs.Rows.{ToComplete, RulesLent, ToEncode};
+ghost use Rattle.acam.specs.Rows.{ToComplete, RulesLent, Measured};
 ghost use Rattle.shape.specs.Lent.{was, left};
 
 // One more digit in each check cell: what brings its check row's sum to 0 mod ρ, at ρ^s = power.
@@ -47,7 +47,7 @@ fn write_digits(shape: Shape, row: &mut [u8], rules: &[u8])
 
 // The check cells of a row of n cells, from its k rule cells. Of the check matrix it makes the columns of these alone.
 pub fn write_checks(shape: Shape, checks: usize, row: &mut [u8])
-    requires { ⌜ ToEncode shape checks (length (now row)) ⌝ }
+    requires { ⌜ Measured shape checks (length (now row)) ⌝ }
     ensures { λ _. ⌜ left row ≡ encode shape (take (shape .width) (was row)) ⌝ }
 {
     let errors = shape.errors;

@@ -11,9 +11,9 @@ ghost use mathlib.Core.Bool.{cond};
 ghost use Prim.Native.Nat.{_≤_};
 ghost use lib.ListN.{length};
 ghost use Rattle.parity.specs.Lists.{keep, filledFrom};
-ghost use Rattle.parity.specs.Matrix.{columnOrder, eligible, ruleColumns, checkColumns};
+ghost use Rattle.parity.specs.Matrix.{columnOrder, eligible, ruleColumns, checkColumns, matrix as matrixOf};
 ghost use Rattle.acam.specs.Matrices.{ruleWeight, matrixArray};
-ghost use Rattle.acam.specs.Rows.{RulesFit, TakenWith};
+ghost use Rattle.acam.specs.Rows.{RulesFit, Measured, TakenWith};
 ghost use Rattle.shape.specs.Lent.{was, left};
 
 // How many of a weight's columns can be rule columns, for τ = 2 and 3: all of them or none.
@@ -82,16 +82,24 @@ fn fill_checks(part: &mut [u8])
     }
 }
 
-// The columns of a shape that is taken with r check columns, and 0 after them.
+// The n columns of a shape that is taken with r check columns.
+pub fn fill_matrix(part: &mut [u8], shape: Shape, checks: usize)
+    requires { ⌜ Measured shape checks (length (now part)) ⌝ }
+    ensures { λ _. ⌜ left part ≡ matrixOf shape ⌝ }
+{
+    let errors = shape.errors;
+    let width = shape.width;
+    fill_rules(&mut part[..width], errors, checks);
+    fill_checks(&mut part[width..]);
+}
+
+// The same in an array, and 0 after them.
 pub fn matrix_of(shape: Shape, checks: usize) -> [u8; 255]
     requires { ⌜ TakenWith shape checks ⌝ }
     ensures { λ r. ⌜ r ≡ matrixArray shape ⌝ }
 {
-    let errors = shape.errors;
-    let width = shape.width;
-    let end = width + checks;
+    let columns = shape.width + checks;
     let mut matrix = [0u8; 255];
-    fill_rules(&mut matrix[..width], errors, checks);
-    fill_checks(&mut matrix[width..end]);
+    fill_matrix(&mut matrix[..columns], shape, checks);
     matrix
 }

@@ -3,5 +3,4 @@ pub mod Asked
 pub mod CycleRecord
 pub mod Steps
 pub mod Given
-pub mod MatrixPart
 pub mod Fresh

@@ -6,7 +6,7 @@ use super::Cycle;
 use super::questions::check_clear;
 use super::questions::check_lent;
 use super::questions::check_start;
-use acam::matrix::matrix_of;
+use acam::matrix::fill_matrix;
 use array::write::put_row;
 use array::write::write_row;
 use array_questions::check_commit;
@@ -24,12 +24,14 @@ use shape::sizes::check_shape;
 ghost use mathlib.Core.Path.{_≡_};
 ghost use mathlib.Core.List.{[], _∷_};
 ghost use lib.ListN.{length};
+ghost use Rattle.parity.specs.Questions.{firstNo};
 ghost use Rattle.shape.specs.Answers.{accepted, giving};
 ghost use Rattle.shape.specs.Lent.{was, left};
 ghost use Rattle.shape.specs.Shapes.{Passed};
 ghost use Rattle.array_memory.specs.Buffers.{wasCells, leftCells, wasRows, leftRows, wasAll, leftAll};
 ghost use Rattle.array_memory.specs.Lengths.{rowsLengths, allLengths};
 ghost use Rattle.array_memory.specs.Memory.{Memory, withRows, withAll, noMemory};
+ghost use Rattle.cycle_place.specs.Walk.{MatrixLent};
 ghost use Rattle.cycle.specs.declared.Cycle.{Cycle as CycleRecord};
 ghost use Rattle.cycle.specs.Calls.{stateOf, clearQuestions, clearCall, programCall, commitCall, startQuestions, startCall};
 ghost use Rattle.cycle.specs.Calls.{lentQuestions, stepCall};
@@ -203,7 +205,7 @@ impl Cycle {
         }
     }
 
-    // A step on buffers of their lengths: question 9, and then the lookup. The check matrix is made once for both.
+    // A step on buffers of their lengths: what it does once the questions up to 6 have been passed.
     pub fn step_lent(
         self,
         shape: Shape,
@@ -222,8 +224,42 @@ impl Cycle {
     {
         let columns = sizes.columns;
         let checks = sizes.checks;
-        let matrix = matrix_of(shape, checks);
-        match self.locate(shape, checks, &matrix[..columns]) {
+        let mut matrix = [0u8; 255];
+        fill_matrix(&mut matrix[..columns], shape, checks);
+        self.step_at(
+            shape,
+            checks,
+            &matrix[..columns],
+            cells,
+            lines,
+            counters,
+            flags,
+            totals,
+            matches,
+        )
+    }
+
+    // The same by the check matrix: question 9, and then the lookup.
+    fn step_at(
+        self,
+        shape: Shape,
+        checks: usize,
+        matrix: &[u8],
+        cells: &[u8],
+        lines: &[u8],
+        counters: &mut [u8],
+        flags: &mut [u8],
+        totals: &mut [u8],
+        matches: &mut [u8],
+    ) -> Changed
+        requires { ⌜ MatrixLent shape checks (now matrix) ⌝ }
+        requires { ⌜ firstNo (lentQuestions shape []
+            (allLengths (withAll (now cells) (now lines) (now counters) (now flags) (now totals) noMemory)) (length (now matches))) ≡ 0 ⌝ }
+        ensures { λ r. ⌜ ((mem : Memory) → stepCall shape (stateOf (wasAll cells lines counters flags totals mem) self) (was matches)
+            ≡ changing r (left matches) (leftAll cells lines counters flags totals mem)) ⌝ }
+    {
+        let columns = matrix.len();
+        match self.locate(shape, checks, matrix) {
             Located::Elsewhere => refused(self, 9),
             Located::Opening(next) => {
                 make_opening(lines, flags, totals, matches);

@@ -2,7 +2,7 @@
 -- Assumes nothing.
 use mathlib.Core.Path.{_≡_, sym, _∙_, ap}
 use mathlib.Core.List.{List, _++_}
-use Prim.Native.Nat.{ℕ}
+use Prim.Native.Nat.{ℕ, _≤_}
 use native.Mathlib.Omega.{arith}
 use lib.ListN.{length, take, drop, length-append}
 use lib.Seq.{take-at}
@@ -15,20 +15,23 @@ use Rattle.acam.proofs.MatrixArray.{zeros, fits, front, rules-fill, rul
 use Rattle.acam.proofs.encode.write_checks.Statement.{statement}
 use Rattle.acam.proofs.encode.write_checks.Tie as tie
 
+-- k columns fit into the array
+room : (c : tie.Start) → c .args .shape .width ≤ 255
+room c = omega (arith, fits (c .args .shape) (c .pre .taken) (c .args .checks) (c .pre .checks))
+
 array-borrow-prefix-rules : tie.Need-array-borrow-prefix-rules
 array-borrow-prefix-rules c =
-    let start = c .before in
-    omega (arith, fits (start .args .shape) (start .pre .taken) (start .args .checks) (start .pre .checks))
+    room (c .before)
 
 slice-aggregate-fill-rules : tie.Need-slice-aggregate-fill-rules
 slice-aggregate-fill-rules c =
     let start = c .before .before in
-    sym (front (start .args .shape) (start .pre .taken) (start .args .checks) (start .pre .checks))
+    sym (front (start .args .shape) (start .pre .taken) (start .args .checks) (start .pre .checks) zeros (room start))
 
 fill-rules-requires : tie.Need-fill-rules-requires
 fill-rules-requires c κs =
     let start = c .before .before in
-    rules-ask (start .args .shape) (start .pre .taken) (start .args .checks) (start .pre .checks)
+    rules-ask (start .args .shape) (start .pre .taken) (start .args .checks) (start .pre .checks) zeros (room start)
 
 -- once the columns are made
 module _ (c : tie.After-write-digits-arg) where
@@ -42,7 +45,7 @@ module _ (c : tie.After-write-digits-arg) where
   made = c .before .before .fill-rules .last .0
 
   are-rules : made ≡ ruleColumns (shape .errors) (checks shape) (shape .width)
-  are-rules = c .before .before .fill-rules .ensures ∙ rules-fill shape (start .pre .taken) (start .args .checks) (start .pre .checks)
+  are-rules = c .before .before .fill-rules .ensures ∙ rules-fill shape (start .pre .taken) (start .args .checks) (start .pre .checks) zeros (room start)
 
   sized : length made ≡ shape .width
   sized = ap length are-rules ∙ rules-sized shape (start .pre .taken)
@@ -60,7 +63,7 @@ slice-aggregate-write-digits c = sym (ap length (part (c .before)) ∙ sized (c 
 write-digits-requires : tie.Need-write-digits-requires
 write-digits-requires c κs =
     let pre = start (c .before) .pre in
-    record { taken = pre .taken; cells = pre .cells; rules = part (c .before) ∙ are-rules (c .before) }
+    record { taken = pre .taken; cells = pre .columns; rules = part (c .before) ∙ are-rules (c .before) }
 
 same-length : tie.Need-same-length
 same-length c = search needs

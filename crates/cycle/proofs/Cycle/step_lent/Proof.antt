@@ -1,254 +1,99 @@
--- `cycle::Cycle::step_lent` meets its contract: `locate` asks 9 and tells the lookup and the place after it, `make_opening` or `make_test` makes the
--- lookup, and the record is moved on. Assumes nothing.
-use mathlib.Core.Path.{_≡_, refl, sym, ap, _∙_}
-use mathlib.Core.Bool.{Bool, true, false, cond}
-use mathlib.Core.List.{List, [], _∷_}
-use Prim.Native.Nat.{ℕ, zero, suc, _<_}
-use native.Mathlib.Nat.{zero-lt-suc}
+-- `cycle::Cycle::step_lent` meets its contract: the check matrix is made in an array, and `step_at` is lent that part of it. Assumes nothing.
+use mathlib.Core.Path.{_≡_, refl, sym, _∙_, ap}
+use mathlib.Core.List.{List, [], _++_}
+use Prim.Native.Nat.{ℕ, _≤_}
 use native.Mathlib.Omega.{arith}
 use lib.Dec.{lit<}
-use lib.ListN.{length}
+use lib.ListN.{length, take, drop, length-append}
+use lib.Seq.{length-take-le, take-at}
 use borrow.Author.Needs.{needs}
-use Rattle.parity.specs.Questions.{Question, firstNo, Taken, lengthsQuestion}
-use Rattle.parity.specs.declared.Shape.{Shape}
-use Rattle.parity.proofs.Taken.{first-yes}
-use Rattle.parity.proofs.Longest.{lookups-high}
-use Rattle.shape.proofs.Refusals.{first-rest, length-lent, CallPassed, call-passed}
-use Rattle.schedule.specs.Schedule.{Entry, opening, schedule}
-use Rattle.array_memory.specs.Blocks.{blocksOf}
-use Rattle.array_memory.specs.Lengths.{allWanted, allLengths, Sized}
-use Rattle.array_memory.specs.Memory.{Memory, withRows, withAll, noMemory}
-use Rattle.array_memory.proofs.Asked.{all-sized}
-use Rattle.cycle_place.specs.Places.{entryAt, nextAt}
-use Rattle.cycle_place.specs.Walk.{hereAt, testOf, toldAt}
-use Rattle.cycle_place.specs.declared.Place.{Place}
-use Rattle.cycle_place.specs.declared.walk.Here.{Here}
-use Rattle.cycle_place.specs.declared.walk.Next.{Next}
-use Rattle.cycle_place.specs.declared.walk.Located.the-variants.{Opening, Test, Elsewhere}
-use Rattle.cycle_place.proofs.Places.{place-entry}
-use Rattle.cycle_lookup.specs.Lookup.{entryMatches, lookedUp}
-use Rattle.cycle.specs.Moves.{Movable}
-use Rattle.cycle.specs.Record.{recordAt, cycleAt, nextEntry, isNext, cycleQuestion}
-use Rattle.cycle.specs.Calls.{stateOf, stepArguments, lentQuestions, stepMatches, steppedMemory, stepped, stepCall}
-use Rattle.cycle.specs.Methods.{changing, doneWith}
-use Rattle.cycle.specs.declared.Cycle.{Cycle}
-use Rattle.cycle.specs.declared.Changed.{Changed}
-use Rattle.cycle.proofs.CycleRecord.{next-record, next-phase, next-place}
-use Rattle.cycle.proofs.MatrixPart.{Part, columns-part}
-use Rattle.cycle.proofs.Given.{gives-refusal, gives-done}
+use Rattle.parity.specs.Shape.{columns}
+use Rattle.parity.specs.Matrix.{matrix}
+use Rattle.parity.specs.Questions.{Taken, lengthsQuestion}
+use Rattle.parity.proofs.MatrixFacts.{matrixClaim}
+use Rattle.parity.proofs.Sizes.{columns-high}
+use Rattle.shape.proofs.Refusals.{call-passed}
+use Rattle.acam.proofs.MatrixArray.{zeros}
+use Rattle.array_memory.specs.Lengths.{allWanted, allLengths}
+use Rattle.array_memory.specs.Memory.{withAll, noMemory}
+use Rattle.cycle.specs.Calls.{stepArguments}
 use Rattle.cycle.proofs.Cycle.step_lent.Statement.{statement}
 use Rattle.cycle.proofs.Cycle.step_lent.Tie as tie
 
--- the memory that is lent, whatever else is in it
-abbrev lent : tie.Start → Memory → Memory
-lent c mem = withAll (c .args .cells .now) (c .args .lines .now) (c .args .counters .now) (c .args .flags .now) (c .args .totals .now) mem
-
--- the questions up to 6, and 9
-abbrev first : tie.Start → List Question
-first c = lentQuestions (c .args .shape) [] (allLengths (lent c noMemory)) (length (c .args .matches .now))
-
-abbrev more : tie.Start → List Question
-more c = cycleQuestion (c .args .shape) (c .args .self) ∷ []
-
--- what `locate` tells
-module _ (z : ℕ) (s : Shape) (place : Place) where
-  opens : (b : Bool) (c : ℕ) (next : Next) → cond b (toldAt z s c place) Elsewhere ≡ Opening next → (b ≡ true) × (c ≡ 0) × (next ≡ nextAt z s 1)
-  opens true zero next e = (refl, refl, cc)
-  opens true (suc c) next e = let never : _≡_ {A = ℕ} 0 1 = cc in absurd (omega arith)
-  opens false c next e = let never : _≡_ {A = ℕ} 0 1 = cc in absurd (omega arith)
-
-  tests : (b : Bool) (c : ℕ) (here : Here) → cond b (toldAt z s c place) Elsewhere ≡ Test here → (b ≡ true) × (0 < c) × (here ≡ hereAt z s c place)
-  tests true zero here e = let never : _≡_ {A = ℕ} 0 1 = cc in absurd (omega arith)
-  tests true (suc c) here e = (refl, zero-lt-suc c, cc)
-  tests false c here e = let never : _≡_ {A = ℕ} 0 1 = cc in absurd (omega arith)
-
-  missed : (b : Bool) (c : ℕ) → cond b (toldAt z s c place) Elsewhere ≡ Elsewhere → b ≡ false
-  missed true zero e = let never : _≡_ {A = ℕ} 0 1 = cc in absurd (omega arith)
-  missed true (suc c) e = let never : _≡_ {A = ℕ} 0 1 = cc in absurd (omega arith)
-  missed false c e = refl
-
--- the places of the start, of the matrix and of the lookup, each from one that follows
-abbrev known : tie.After-slice-known2 → tie.Start
+-- the places of the start and of the matrix, each from one that follows
+abbrev known : tie.After-slice-known4 → tie.After-shared-slice-known2
 known c = c .before .before .before .before
 
-abbrev begun : tie.After-matrix-of → tie.Start
-begun c = known (c .before .before .before)
+abbrev begun : tie.After-slice-known4 → tie.Start
+begun c = known c .before .before
 
-abbrev located : tie.After-known-told → tie.After-locate
-located c = c .before .before .before
-
-abbrev located-test : tie.After-known-told2 → tie.After-locate
-located-test c = c .before .before .before
-
-abbrev made : tie.After-locate → tie.After-matrix-of
-made c = c .before .before
-
-abbrev opening-told : tie.After-make-opening → tie.After-known-told
-opening-told c = c .before .before .before .before
-
-abbrev opening-back : tie.After-slice-known7 → tie.After-slice-known5
-opening-back c = c .before .before .before .before
-
-abbrev opening-made : tie.After-slice-known7 → tie.After-make-opening
-opening-made c = opening-back c .before .before
-
-abbrev lending : tie.After-make-test-arg4 → tie.After-place
-lending c = c .before .before .before .before
-
-abbrev test-back : tie.After-slice-known11 → tie.After-slice-known9
-test-back c = c .before .before .before .before
-
-abbrev test-made : tie.After-slice-known11 → tie.After-make-test
-test-made c = test-back c .before .before .before .before
-
-abbrev test-told : tie.After-make-test → tie.After-known-told2
-test-told c = lending (c .before) .before
+abbrev filled : tie.After-step-at-arg4 → tie.After-matrix3
+filled c = c .before .before .before .before
 
 -- ---- what is given
 
 module _ (c : tie.Start) where
-  passed : CallPassed (c .args .shape) [] (lengthsQuestion (allLengths (lent c noMemory)) (allWanted (c .args .shape)))
-      (stepArguments (c .args .shape) (length (c .args .matches .now)))
-  passed =
-      let s = c .args .shape in
-      call-passed s [] (lengthsQuestion (allLengths (lent c noMemory)) (allWanted s)) (stepArguments s (length (c .args .matches .now))) refl (lit< tt)
-      (c .pre .none)
+  abbrev lengths : List ℕ
+  lengths = allLengths (withAll (c .args .cells .now) (c .args .lines .now) (c .args .counters .now) (c .args .flags .now) (c .args .totals .now) noMemory)
 
   taken : Taken (c .args .shape)
-  taken = passed .taken
+  taken =
+      let s = c .args .shape in
+      call-passed s [] (lengthsQuestion lengths (allWanted s)) (stepArguments s (length (c .args .matches .now))) refl (lit< tt) (c .pre .none) .taken
 
-  sized : Sized (c .args .shape) (lent c noMemory)
-  sized = all-sized (c .args .shape) (lent c noMemory) (passed .lent)
+  wide : c .args .sizes .columns ≡ columns (c .args .shape)
+  wide = ap (λ z. z .columns) (c .pre .sizes)
 
-  matches-sized : length (c .args .matches .now) ≡ c .args .shape .rows
-  matches-sized =
-      let six = first-yes _ 0 6 (lit< tt) (passed .arguments) in
-      length-lent (length (c .args .matches .now) ∷ []) (c .args .shape .rows ∷ []) (six .0) 0
+  fits : c .args .sizes .columns ≤ 255
+  fits = omega (arith, wide, columns-high (c .args .shape) taken)
 
-matrix-lent : (c : tie.After-matrix-of) → Part (begun c .args .shape) (begun c .args .sizes .columns) (c .matrix-of .result)
-matrix-lent c = columns-part _ _ _ (taken (begun c)) (ap (λ z. z .columns) (begun c .pre .sizes)) (c .matrix-of .ensures)
+array-borrow-prefix-matrix : tie.Need-array-borrow-prefix-matrix
+array-borrow-prefix-matrix c = fits (begun c)
 
-opening-found :
-    (c : tie.After-known-told) → let args = begun (made (located c)) .args in
-    (isNext (args .shape) (args .self) ≡ true) × (args .self .count ≡ 0) × (c .before .next .given .0 .0 ≡ nextAt (args .self .skip) (args .shape) 1)
-opening-found c =
-    let args = begun (made (located c)) .args in
-    opens (args .self .skip) (args .shape) (args .self .place) _ _ _ (sym (located c .locate .ensures) ∙ c .before .next .given .1)
+slice-aggregate-fill-matrix : tie.Need-slice-aggregate-fill-matrix
+slice-aggregate-fill-matrix c = sym (length-take-le _ zeros (fits (begun (c .before))))
 
-test-found :
-    (c : tie.After-known-told2) → let args = begun (made (located-test c)) .args in
-    (isNext (args .shape) (args .self) ≡ true)
-    × (0 < args .self .count)
-    × (c .before .here .given .0 .0 ≡ hereAt (args .self .skip) (args .shape) (args .self .count) (args .self .place))
-test-found c =
-    let args = begun (made (located-test c)) .args in
-    tests (args .self .skip) (args .shape) (args .self .place) _ _ _ (sym (located-test c .locate .ensures) ∙ c .before .here .given .1)
-
--- a record that question 9 takes can be moved on
-movable : (c : tie.Start) → isNext (c .args .shape) (c .args .self) ≡ true → Movable (c .args .self)
-movable c next =
-    let self = c .args .self in
-    let s = c .args .shape in
+fill-matrix-requires : tie.Need-fill-matrix-requires
+fill-matrix-requires c κs =
+    let start = begun (c .before) in
     record {
-      open-phase = next-phase s (taken c) self next;
-      below = omega (arith, next-record s (taken c) self next .1, lookups-high (self .skip) s (taken c));
+      taken = taken start;
+      checks = ap (λ z. z .checks) (start .pre .sizes);
+      columns = length-take-le _ zeros (fits start) ∙ wide start;
     }
 
--- the entry that is next is the opening
-entry-opening : (s : Shape) (cycle : Cycle) → cycle .count ≡ 0 → nextEntry s cycle ≡ opening
-unfolding entryAt schedule
-entry-opening s cycle none = ap (entryAt (cycle .skip) s) none
+-- once the columns are made
+module _ (c : tie.After-matrix2) where
+  abbrev start : tie.Start
+  start = begun (c .before .before .before)
 
--- what a step gives where question 9 is passed
-step-gives :
-    (start : tie.Start) → isNext (start .args .shape) (start .args .self) ≡ true → (e : Entry) → nextEntry (start .args .shape) (start .args .self) ≡ e
-    → (mem : Memory) (r : Changed) (cycle : Cycle) (matches : List ℕ) (last : Memory) → r ≡ doneWith cycle
-    → entryMatches (start .args .shape) e (lent start mem) ≡ matches → lookedUp (start .args .shape) e (lent start mem) ≡ last
-    → cycleAt (start .args .self .skip) (start .args .shape) (suc (start .args .self .count)) ≡ cycle
-    → stepCall (start .args .shape) (stateOf (lent start mem) (start .args .self)) (start .args .matches .now) ≡ changing r matches last
-unfolding stepCall stepped stepMatches steppedMemory
-step-gives start next e here mem r cycle matches last done looked stepped moved =
-    let s = start .args .shape in
-    let own : firstNo (more start) ≡ 0 = rw next refl in
-    gives-done _ (start .args .matches .now) (lent start mem) (start .args .self) r _ _ _ _ _ cycle
-    (first-rest (first start) (more start) refl (start .pre .none) ∙ own) done
-    (ap (λ e. entryMatches s e (lent start mem)) here ∙ looked) (ap (λ e. lookedUp s e (lent start mem)) here ∙ stepped) moved
+  abbrev made : List ℕ
+  made = c .before .fill-matrix .last .0
 
-matrix-of-requires : tie.Need-matrix-of-requires
-matrix-of-requires c κs = let start = known (c .before .before) in record { taken = taken start; checks = ap (λ z. z .checks) (start .pre .sizes) }
+  counted : length made ≡ start .args .sizes .columns
+  counted = ap length (c .before .fill-matrix .ensures) ∙ matrixClaim (start .args .shape) (taken start) .sized ∙ sym (wide start)
+
+  -- the part of the array that holds them
+  part : take (start .args .sizes .columns) (made ++ drop (start .args .sizes .columns) zeros) ≡ made
+  part = take-at made (drop (start .args .sizes .columns) zeros) (start .args .sizes .columns) counted
 
 array-share-prefix-matrix : tie.Need-array-share-prefix-matrix
-array-share-prefix-matrix c = matrix-lent c .within
+array-share-prefix-matrix c = omega (arith, length-append (made c) (drop (start c .args .sizes .columns) zeros), counted c)
 
-slice-aggregate-locate : tie.Need-slice-aggregate-locate
-slice-aggregate-locate c = matrix-lent (c .before) .sized
+slice-aggregate-step-at : tie.Need-slice-aggregate-step-at
+slice-aggregate-step-at c = sym (ap length (part (c .before)) ∙ counted (c .before))
 
-locate-requires : tie.Need-locate-requires
-locate-requires c κs = let start = begun (c .before) in record { taken = taken start; checks = ap (λ z. z .checks) (start .pre .sizes); matrix = matrix-lent (c .before) .holds }
-
-enum-told : tie.Need-enum-told
-enum-told c = search needs
-
-refused-requires : tie.Need-refused-requires
-refused-requires c κs = search needs
-
-enum-known-next : tie.Need-enum-known-next
-enum-known-next c = search needs
-
-make-opening-requires : tie.Need-make-opening-requires
-make-opening-requires c κs =
-    let start = begun (made (located (c .before .before .before))) in
-    let z = sized start in
-    record {
-      matches = z .lines ∙ sym (matches-sized start);
-      flags = z .lines ∙ sym (z .rows .flags);
-      totals = z .rows .totals ∙ ap blocksOf (sym (z .rows .flags));
-    }
-
-moved-requires : tie.Need-moved-requires
-moved-requires c κs = let told = opening-told (opening-made c) in movable (begun (made (located told))) (opening-found told .0)
-
-done-requires : tie.Need-done-requires
-done-requires c κs = search needs
-
-enum-known-here : tie.Need-enum-known-here
-enum-known-here c = search needs
-
-make-test-requires : tie.Need-make-test-requires
-make-test-requires c κs =
-    let told = lending c .before in
-    let start = begun (made (located-test told)) in
-    let self = start .args .self in
-    let found = test-found told in (
+step-at-requires : tie.Need-step-at-requires
+step-at-requires c κs =
+    let known = filled c .before in
+    let begin = start known in (
       record {
-        taken = taken start;
-        columns = ap (λ z. z .columns) (start .pre .sizes);
-        stands = next-place (start .args .shape) (taken start) self (found .1) (found .0) .0;
-        ends = ap (λ here. here .ends) (found .2);
+        taken = taken begin;
+        checks = ap (λ z. z .checks) (begin .pre .sizes);
+        matrix = part known ∙ known .before .fill-matrix .ensures;
       },
-      record { memory = sized start; matches = matches-sized start },
+      begin .pre .none,
     )
-
-moved-requires-2 : tie.Need-moved-requires-2
-moved-requires-2 c κs = let told = test-told (test-made c) in movable (begun (made (located-test told))) (test-found told .0)
-
-done-requires-2 : tie.Need-done-requires-2
-done-requires-2 c κs = search needs
-
--- 9
-returns : tie.Need-returns
-unfolding stepCall
-returns c =
-    let missing = c .before in
-    let lookup = missing .before .before in
-    let start = begun (made lookup) in
-    let s = start .args .shape in
-    let self = start .args .self in
-    let fails : isNext s self ≡ false =
-    missed (self .skip) s (self .place) _ (self .count) (sym (lookup .locate .ensures) ∙ missing .enum-told .given .1) in
-    let own : firstNo (more start) ≡ 9 = rw fails refl in
-    λ mem. gives-refusal _ (start .args .matches .now) (lent start mem) self _ _ 9
-    (first-rest (first start) (more start) refl (start .pre .none) ∙ own, lit< tt) (c .refused .ensures)
 
 same-length : tie.Need-same-length
 same-length c = search needs
@@ -259,80 +104,24 @@ same-length-2 c = search needs
 same-length-3 : tie.Need-same-length-3
 same-length-3 c = search needs
 
--- the opening
-returns-2 : tie.Need-returns-2
-unfolding cycleAt
-returns-2 c =
-    let moved = c .before in
-    let opened = opening-made (moved .before) in
-    let told = opening-told opened in
-    let start = begun (made (located told)) in
-    let s = start .args .shape in
-    let self = start .args .self in
-    let t = taken start in
-    let (next, none, place) = opening-found told in
-    let after = moved .moved .ensures
-    ∙ ap (λ n. recordAt (self .skip) n (suc (self .count))) (place ∙ ap (λ c. nextAt (self .skip) s (suc c)) (sym none)) in
-    λ mem. step-gives start next opening (entry-opening s self none) mem _ _ _ _ (c .done .ensures)
-    (opened .make-opening .ensures .0 s t (lent start mem) (sized start))
-    (opened .make-opening .ensures .1 s t (lent start mem) (sized start)) (sym after)
-
 same-length-4 : tie.Need-same-length-4
 same-length-4 c = search needs
 
-same-length-5 : tie.Need-same-length-5
-same-length-5 c = search needs
-
-same-length-6 : tie.Need-same-length-6
-same-length-6 c = search needs
-
-same-length-7 : tie.Need-same-length-7
-same-length-7 c = search needs
-
--- a test
-returns-3 : tie.Need-returns-3
-unfolding cycleAt
-returns-3 c =
-    let moved = c .before in
-    let tested = test-made (moved .before) in
-    let told = test-told tested in
-    let start = begun (made (located-test told)) in
-    let s = start .args .shape in
-    let self = start .args .self in
-    let t = taken start in
-    let (next, low, here) = test-found told in
-    let at = next-place s t self low next in
-    let after = moved .moved2 .ensures ∙ ap (λ here. recordAt (self .skip) (here .next) (suc (self .count))) here in
-    λ mem. step-gives start next (testOf (self .skip) s (self .place)) (place-entry (self .skip) s t (self .count) (self .place) at .1) mem _ _ _ _
-    (c .done2 .ensures)
-    (tested .make-test .ensures .0 (withRows (start .args .counters .now) (start .args .flags .now) (start .args .totals .now) mem))
-    (tested .make-test .ensures .1 mem) (sym after)
+returns : tie.Need-returns
+returns c = search needs
 
 pub step-lent-spec : {M : Type 1} → statement M
 step-lent-spec =
     tie.close
     (tie.spec
-    matrix-of-requires
+    array-borrow-prefix-matrix
+    slice-aggregate-fill-matrix
+    fill-matrix-requires
     array-share-prefix-matrix
-    slice-aggregate-locate
-    locate-requires
-    enum-told
-    refused-requires
-    enum-known-next
-    make-opening-requires
-    moved-requires
-    done-requires
-    enum-known-here
-    make-test-requires
-    moved-requires-2
-    done-requires-2
-    returns
+    slice-aggregate-step-at
+    step-at-requires
     same-length
     same-length-2
     same-length-3
-    returns-2
     same-length-4
-    same-length-5
-    same-length-6
-    same-length-7
-    returns-3)
+    returns)
