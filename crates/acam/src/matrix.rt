@@ -1,10 +1,10 @@
 // The columns of a shape's check matrix: the rule columns, then the check columns.
 use super::order::choices;
 use super::order::column_order;
-use super::order::power_of_two;
 use parity::Shape;
 use shape::byte::copy;
 use shape::byte::fill;
+use shape::byte::power_of_two;
 use shape::byte::wide;
 ghost use mathlib.Core.Path.{_≡_};
 ghost use mathlib.Core.Bool.{cond};

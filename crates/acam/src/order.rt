@@ -297,11 +297,3 @@ pub fn ones(column: u8) -> usize
 {
     u32::count_ones(column as u32) as usize
 }
-
-// 2^ℓ, the check column of check row ℓ; 2^r bounds the columns beside r check columns.
-pub fn power_of_two(exponent: usize) -> usize
-    requires { ⌜ exponent ≤ 8 ⌝ }
-    ensures { λ r. ⌜ r ≡ 2 ^ exponent ⌝ }
-{
-    1 << exponent
-}

@@ -1,12 +1,12 @@
--- The questions of the calls on the cells and on the lines, in document 01's order: what each asks of its arguments, 6 on the buffers among them first,
--- and all that it asks, by the number of cells or lines that it is lent.
+-- The questions of the calls on the cells, on the lines and on the whole memory, in document 01's order, but for a step's 9: what each asks of its
+-- arguments, 6 on the buffers among them first, and all that it asks, by the lengths of what it is lent.
 use mathlib.Core.List.{List, [], _∷_}
 use Prim.Native.Nat.{ℕ}
 use lib.ListN.{length}
 use Rattle.parity.specs.Shape.{levels, columns}
-use Rattle.parity.specs.Questions.{Question, callQuestions, lengthsQuestion, placeQuestion, levelsQuestion, lineQuestion, soundQuestion}
+use Rattle.parity.specs.Questions.{Question, callQuestions, skipQuestion, lengthsQuestion, placeQuestion, levelsQuestion, lineQuestion, soundQuestion}
 use Rattle.parity.specs.declared.Shape.{Shape}
-use Rattle.array_memory.specs.Lengths.{cellsWanted, linesWanted}
+use Rattle.array_memory.specs.Lengths.{cellsWanted, linesWanted, rowsWanted, allWanted}
 
 -- 1 to 5, 6 on the cells, and what a call on the cells asks of its arguments
 abbrev pub cellsQuestions : Shape → ℕ → List Question → List Question
@@ -53,3 +53,24 @@ commitArguments s row finished =
     ∷ levelsQuestion (levels s) finished
     ∷ soundQuestion s finished
     ∷ []
+
+-- ---- clear: 6 on the whole memory, by its lengths
+
+abbrev pub clearQuestions : Shape → List ℕ → List Question
+clearQuestions s lent = callQuestions s [] (lengthsQuestion lent (allWanted s)) []
+
+-- ---- start: 15 on the number of digits to skip, and then 6 on counters, flags and totals, by their lengths
+
+abbrev pub startArguments : Shape → ℕ → List Question
+startArguments s z = skipQuestion s z ∷ []
+
+abbrev pub startQuestions : Shape → ℕ → List ℕ → List Question
+startQuestions s z lent = callQuestions s (startArguments s z) (lengthsQuestion lent (rowsWanted s)) []
+
+-- ---- step: 6 on the buffer for match bytes, by its length; after further numbers and 6 on the whole memory
+
+abbrev pub stepArguments : Shape → ℕ → List Question
+stepArguments s matches = lengthsQuestion (matches ∷ []) (s .rows ∷ []) ∷ []
+
+abbrev pub lentQuestions : Shape → List Question → List ℕ → ℕ → List Question
+lentQuestions s numbers lent matches = callQuestions s numbers (lengthsQuestion lent (allWanted s)) (stepArguments s matches)

@@ -1,5 +1,7 @@
-// The questions of the calls on the cells and on the lines, asked in their order: each function gives the shape's sizes, or the
-// number of the first no.
+// The questions of the calls on the cells, on the lines and on the whole memory, asked in their order: each function gives the
+// shape's sizes, or the number of the first no.
+pub mod memory;
+
 use acam::matrix::matrix_of;
 use acam::sound::is_balanced;
 use parity::Shape;

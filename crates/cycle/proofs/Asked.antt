@@ -12,9 +12,9 @@ use borrow.Author.Tests.{ltb-true}
 use Rattle.shape.proofs.Refusals.{call-rest}
 use Rattle.array_memory.specs.Lengths.{cellsWanted, linesWanted, rowsWanted, allWanted, Sized, rowsLengths, allLengths}
 use Rattle.array_memory.proofs.Asked.{cells-lent, lines-lent, rows-lent, all-lent}
-use Rattle.array_questions.specs.Questions.{cellsQuestions, linesQuestions}
+use Rattle.array_questions.specs.Questions.{cellsQuestions, linesQuestions, clearQuestions, startArguments, startQuestions, stepArguments, lentQuestions}
 use Rattle.cycle.specs.Record.{cycleQuestion}
-use Rattle.cycle.specs.Calls.{State, clearQuestions, startArguments, startQuestions, stepArguments, lentQuestions, stepQuestions}
+use Rattle.cycle.specs.Calls.{State, stepQuestions}
 
 -- a number of digits to skip that is taken is below b
 pub skip-below : (s : Shape) (z : ℕ) → firstNo (startArguments s z) ≡ 0 → z < s .digits

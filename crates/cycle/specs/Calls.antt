@@ -5,13 +5,13 @@ use Prim.Native.Nat.{ℕ, suc}
 use lib.ListN.{length, replicate}
 use Rattle.parity.specs.Codeword.{encode}
 use Rattle.parity.specs.Shape.{cellCount}
-use Rattle.parity.specs.Questions.{Question, callQuestions, skipQuestion, lengthsQuestion}
+use Rattle.parity.specs.Questions.{Question}
 use Rattle.parity.specs.declared.Shape.{Shape}
 use Rattle.shape.specs.Answers.{Result, accepted, giving, calling}
 use Rattle.array_memory.specs.Blocks.{blocks}
-use Rattle.array_memory.specs.Lengths.{rowsWanted, allWanted, rowsLengths, allLengths}
+use Rattle.array_memory.specs.Lengths.{rowsLengths, allLengths}
 use Rattle.array_memory.specs.Memory.{Memory, withArray, withRows, noMemory}
-use Rattle.array_questions.specs.Questions.{cellsQuestions, programArguments, commitArguments}
+use Rattle.array_questions.specs.Questions.{cellsQuestions, programArguments, commitArguments, clearQuestions, startQuestions, lentQuestions}
 use Rattle.array.specs.Calls.{rowWritten}
 use Rattle.cycle_lookup.specs.Lookup.{entryMatches, lookedUp}
 use Rattle.cycle.specs.Record.{idle, nextEntry, cycleAt, cycleQuestion}
@@ -39,10 +39,6 @@ zeroRows s mem = withRows (replicate (s .rows) 0) (replicate (s .rows) 0) (repli
 unfoldable pub cleared : Shape → Memory → Memory
 cleared s mem = withArray (replicate (cellCount s) 0) (replicate (s .rows) 0) (zeroRows s mem)
 
--- 6 on the whole memory, by its lengths
-abbrev pub clearQuestions : Shape → List ℕ → List Question
-clearQuestions s lent = callQuestions s [] (lengthsQuestion lent (allWanted s)) []
-
 -- cells, lines, counters, flags and totals all 0, record idle with count 0
 unfoldable pub clearCall : Shape → State → Result State
 clearCall s st = calling (clearQuestions s (allLengths (st .memory))) [] st (giving (accepted 0) [] (stateOf (cleared s (st .memory)) idle))
@@ -69,14 +65,6 @@ commitCall s st row finished =
 
 -- ---- start
 
--- what a start asks of its argument: 15 on the number of digits to skip
-abbrev pub startArguments : Shape → ℕ → List Question
-startArguments s z = skipQuestion s z ∷ []
-
--- .. and then 6 on counters, flags and totals, by their lengths
-abbrev pub startQuestions : Shape → ℕ → List ℕ → List Question
-startQuestions s z lent = callQuestions s (startArguments s z) (lengthsQuestion lent (rowsWanted s)) []
-
 -- counters, flags and totals 0, record open, count 0, its opening next, also when a cycle was open
 unfoldable pub started : Shape → State → ℕ → State
 started s st z = stateOf (zeroRows s (st .memory)) (cycleAt z s 0)
@@ -86,15 +74,7 @@ startCall s st z = calling (startQuestions s z (rowsLengths (st .memory))) [] st
 
 -- ---- step
 
--- what a step asks of its arguments: 6 on the buffer for match bytes, by its length
-abbrev pub stepArguments : Shape → ℕ → List Question
-stepArguments s matches = lengthsQuestion (matches ∷ []) (s .rows ∷ []) ∷ []
-
--- 6 on the whole memory, by its lengths, and on the match bytes, after further numbers
-abbrev pub lentQuestions : Shape → List Question → List ℕ → ℕ → List Question
-lentQuestions s numbers lent matches = callQuestions s numbers (lengthsQuestion lent (allWanted s)) (stepArguments s matches)
-
--- .. then 9
+-- the questions up to 6, and then 9
 abbrev pub stepQuestions : Shape → State → List ℕ → List Question
 stepQuestions s st matches = lentQuestions s [] (allLengths (st .memory)) (length matches) ++ cycleQuestion s (st .cycle) ∷ []
 

@@ -3,14 +3,14 @@
 // questions have been passed; those of program and commit are `write_row` and `put_row`.
 use super::Changed;
 use super::Cycle;
-use super::questions::check_clear;
-use super::questions::check_lent;
-use super::questions::check_start;
 use acam::matrix::fill_matrix;
 use array::write::put_row;
 use array::write::write_row;
 use array_questions::check_commit;
 use array_questions::check_program;
+use array_questions::memory::check_clear;
+use array_questions::memory::check_lent;
+use array_questions::memory::check_start;
 use cycle_lookup::column::make_test;
 use cycle_lookup::opening::make_opening;
 use cycle_passes::rows::reset_rows;
@@ -31,10 +31,11 @@ ghost use Rattle.shape.specs.Shapes.{Passed};
 ghost use Rattle.array_memory.specs.Buffers.{wasCells, leftCells, wasRows, leftRows, wasAll, leftAll};
 ghost use Rattle.array_memory.specs.Lengths.{rowsLengths, allLengths};
 ghost use Rattle.array_memory.specs.Memory.{Memory, withRows, withAll, noMemory};
+ghost use Rattle.array_questions.specs.Questions.{clearQuestions, startQuestions, lentQuestions};
 ghost use Rattle.cycle_place.specs.Walk.{MatrixLent};
 ghost use Rattle.cycle.specs.declared.Cycle.{Cycle as CycleRecord};
-ghost use Rattle.cycle.specs.Calls.{stateOf, clearQuestions, clearCall, programCall, commitCall, startQuestions, startCall};
-ghost use Rattle.cycle.specs.Calls.{lentQuestions, stepCall};
+ghost use Rattle.cycle.specs.Calls.{stateOf, clearCall, programCall, commitCall, startCall};
+ghost use Rattle.cycle.specs.Calls.{stepCall};
 ghost use Rattle.cycle.specs.Methods.{changing, refusedWith, doneWith};
 ghost use Rattle.cycle.specs.Record.{idle};
 

@@ -1,6 +1,5 @@
 // The detection cycle of the sorting head's array: its record, and the calls that need it.
 pub mod calls;
-pub mod questions;
 
 use cycle_place::Place;
 use cycle_place::walk;

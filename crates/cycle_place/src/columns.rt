@@ -1,5 +1,5 @@
 // The passes of a step over the columns of the check matrix: where the ones of a check row are.
-use acam::order::power_of_two;
+use shape::byte::power_of_two;
 use shape::byte::wide;
 ghost use mathlib.Core.Path.{_≡_};
 ghost use Prim.Native.Nat.{_^_, _≤_, _<_};

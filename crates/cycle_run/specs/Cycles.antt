@@ -9,9 +9,10 @@ use Rattle.parity.specs.declared.Shape.{Shape}
 use Rattle.shape.specs.Answers.{Result, accepted, giving, calling}
 use Rattle.array_memory.specs.Lengths.{allLengths}
 use Rattle.array_memory.specs.Memory.{Memory}
+use Rattle.array_questions.specs.Questions.{startArguments, lentQuestions}
 use Rattle.cycle_place.specs.Places.{entryAt}
 use Rattle.cycle_lookup.specs.Lookup.{entryMatches}
-use Rattle.cycle.specs.Calls.{State, startArguments, lentQuestions, startCall, stepCall}
+use Rattle.cycle.specs.Calls.{State, startCall, stepCall}
 
 -- the state after a step with each of the buffers for match bytes, one after the other
 abbrev pub afterSteps : Shape → State → List (List ℕ) → State

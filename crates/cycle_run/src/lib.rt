@@ -1,10 +1,10 @@
 // One whole detection cycle as one call.
+use array_questions::memory::check_lent;
 use cycle::Changed;
 use cycle::Cycle;
 use cycle::calls::done;
 use cycle::calls::refused;
 use cycle::calls::start_lent;
-use cycle::questions::check_lent;
 use parity::Shape;
 use shape::sizes::Checked;
 use shape::sizes::check_shape;

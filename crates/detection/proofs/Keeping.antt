@@ -23,13 +23,13 @@ use Rattle.array_memory.specs.Lengths.{Sized}
 use Rattle.array_memory.specs.Memory.{Memory, withCells, withLines}
 use Rattle.array_memory.proofs.Asked.{array-lent, rows-kept}
 use Rattle.array_memory.proofs.RowPlaces.{row-cell}
-use Rattle.array_questions.specs.Questions.{cellsQuestions, programArguments, askArguments, commitArguments, driftArguments, lineArguments}
+use Rattle.array_questions.specs.Questions.{cellsQuestions, programArguments, askArguments, commitArguments, driftArguments, lineArguments, startArguments}
 use Rattle.array_questions.proofs.Asked.{program-reads, commit-reads, Drifts, drift-reads}
 use Rattle.array.specs.Calls.{rowWritten, askCall, drifted, driftCall, lineSet, lineCall}
 use Rattle.array_lookup.specs.Lookups.{lookupArguments, lookupCall}
 use Rattle.cycle_lookup.specs.Lookup.{lookedUp}
 use Rattle.cycle.specs.Record.{idle, isNext}
-use Rattle.cycle.specs.Calls.{State, stateOf, zeroRows, cleared, fresh, clearCall, programCall, commitCall, startArguments, started, startCall}
+use Rattle.cycle.specs.Calls.{State, stateOf, zeroRows, cleared, fresh, clearCall, programCall, commitCall, started, startCall}
 use Rattle.cycle.specs.Calls.{steppedMemory, stepped}
 use Rattle.cycle.proofs.Asked.{skip-below, clear-asked, start-asked, cells-asked, lines-asked}
 use Rattle.cycle.proofs.CycleRecord.{stands-at, stands-next, next-idle, next-open, next-complete}

@@ -10,6 +10,7 @@ use Rattle.parity.specs.Lists.{tabulate}
 use Rattle.parity.specs.Questions.{Question, firstNo, lengthsQuestion}
 use Rattle.parity.specs.declared.Shape.{Shape}
 use Rattle.parity.proofs.ListLaws.{length-tabulate, getD-tabulate}
+use Rattle.array_questions.specs.Questions.{stepArguments, lentQuestions}
 use Rattle.schedule.specs.Schedule.{Entry, opening, schedule}
 use Rattle.schedule.specs.Tally.{counted, reset}
 use Rattle.shape.specs.Answers.{accepted, giving}
@@ -20,7 +21,7 @@ use Rattle.array_memory.proofs.Asked.{all-sized}
 use Rattle.cycle_place.specs.Places.{entryAt}
 use Rattle.cycle_lookup.specs.Lookup.{entryMatches, countedRows, resetRows, lookedUp}
 use Rattle.cycle.specs.Record.{cycleQuestion}
-use Rattle.cycle.specs.Calls.{State, lentQuestions, stepArguments, stepQuestions, stepMatches, steppedMemory, stepped, stepCall}
+use Rattle.cycle.specs.Calls.{State, stepQuestions, stepMatches, steppedMemory, stepped, stepCall}
 use Rattle.detection.specs.Claims.{OpeningClaim}
 
 -- bytes read one after the other

@@ -11,9 +11,8 @@ use Rattle.parity.specs.Matrix.{cycleSteps}
 use Rattle.parity.specs.Codeword.{encode}
 use Rattle.parity.specs.Questions.{Question, firstNo, ifTaken}
 use Rattle.parity.specs.declared.Shape.{Shape}
-use Rattle.array_questions.specs.Questions.{driftArguments, lineArguments, programArguments, askArguments, commitArguments}
+use Rattle.array_questions.specs.Questions.{driftArguments, lineArguments, programArguments, askArguments, commitArguments, startArguments, stepArguments}
 use Rattle.array_lookup.specs.Lookups.{lookupArguments}
-use Rattle.cycle.specs.Calls.{startArguments, stepArguments}
 use Rattle.call_lists.specs.Run.{Call, clear, start, program, ask, commit, drift, line, lookup, step}
 
 -- ---- what it holds

@@ -14,8 +14,9 @@ use Rattle.shape.specs.Answers.{Result, accepted, refused, giving, calling}
 use Rattle.shape.proofs.Calling.{call-done, call-keeps}
 use Rattle.array_memory.specs.Lengths.{Sized}
 use Rattle.array_memory.specs.Memory.{Memory}
+use Rattle.array_questions.specs.Questions.{startArguments}
 use Rattle.cycle.specs.Record.{idle}
-use Rattle.cycle.specs.Calls.{State, stateOf, zeroRows, cleared, fresh, clearCall, programCall, startArguments, startCall}
+use Rattle.cycle.specs.Calls.{State, stateOf, zeroRows, cleared, fresh, clearCall, programCall, startCall}
 use Rattle.cycle.specs.Calls.{stepQuestions, stepMatches, stepped, stepCall}
 use Rattle.cycle.specs.Methods.{changing}
 use Rattle.cycle.specs.declared.Changed.{Changed}

@@ -17,7 +17,7 @@ use Rattle.parity.proofs.Followed.{followed-append}
 use Rattle.parity.proofs.ListLaws.{same-at}
 use Rattle.parity.proofs.Taken.{limits}
 use Rattle.shape.proofs.Calling.{if-either}
-use Rattle.cycle.specs.Calls.{startArguments, stepArguments}
+use Rattle.array_questions.specs.Questions.{startArguments, stepArguments}
 use Rattle.call_lists.specs.Run.{Call, start, program, drift, step}
 use Rattle.detection.specs.Log.{open-cycle, ended, Log, blank, withCycle, logTaken, logStep, whileOpen, argumentsOf, logCall, logFrom, log}
 use Rattle.detection.specs.Claims.{RightFlag, wroteAt, standsAt, lineAt, flagAt}

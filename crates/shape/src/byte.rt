@@ -1,5 +1,6 @@
-// A byte read as a number, bytes filled with one value or copied, the largest of them, and how many differ.
+// A byte read as a number, its bits, bytes filled with one value or copied, the largest of them, and how many differ.
 ghost use mathlib.Core.Path.{_≡_};
+ghost use Prim.Native.Nat.{_^_, _≤_};
 ghost use lib.Dec.{ltb};
 ghost use lib.ListN.{length, replicate};
 ghost use Rattle.parity.specs.Lists.{every, greatest, filledFrom, differences};
@@ -11,6 +12,14 @@ pub fn wide(byte: u8) -> usize
     ensures { λ r. ⌜ r ≡ byte ⌝ }
 {
     byte as usize
+}
+
+// 2^ℓ: in a column, the bit of check row ℓ.
+pub fn power_of_two(exponent: usize) -> usize
+    requires { ⌜ exponent ≤ 8 ⌝ }
+    ensures { λ r. ⌜ r ≡ 2 ^ exponent ⌝ }
+{
+    1 << exponent
 }
 
 pub fn fill(part: &mut [u8], value: u8)

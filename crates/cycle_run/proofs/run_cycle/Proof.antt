@@ -17,9 +17,10 @@ use Rattle.array_memory.specs.Blocks.{blocks}
 use Rattle.array_memory.specs.Lengths.{allWanted, allLengths, Sized}
 use Rattle.array_memory.specs.Memory.{Memory, withArray, withAll, noMemory}
 use Rattle.array_memory.proofs.Asked.{all-sized}
+use Rattle.array_questions.specs.Questions.{startArguments, stepArguments}
 use Rattle.cycle_lookup.specs.Lookup.{entryMatches}
 use Rattle.cycle.specs.Record.{cycleAt}
-use Rattle.cycle.specs.Calls.{State, stateOf, startArguments, stepArguments, started, startCall}
+use Rattle.cycle.specs.Calls.{State, stateOf, started, startCall}
 use Rattle.cycle.specs.Methods.{changing}
 use Rattle.cycle.proofs.Asked.{skip-below, start-asked}
 use Rattle.cycle.proofs.CycleRecord.{record-skip}

@@ -5,7 +5,8 @@ use Rattle.parity.specs.Questions.{Question}
 use Rattle.shape.proofs.Refusals.{door-passed, door-refused}
 use Rattle.array_memory.specs.Lengths.{allLengths}
 use Rattle.array_memory.specs.Memory.{Memory, withAll, noMemory}
-use Rattle.cycle.specs.Calls.{clearQuestions, clearCall}
+use Rattle.array_questions.specs.Questions.{clearQuestions}
+use Rattle.cycle.specs.Calls.{clearCall}
 use Rattle.cycle.proofs.Given.{gives-refusal, act-done}
 use Rattle.cycle.proofs.Cycle.clear.Statement.{statement}
 use Rattle.cycle.proofs.Cycle.clear.Tie as tie

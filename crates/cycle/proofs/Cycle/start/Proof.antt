@@ -5,7 +5,8 @@ use Rattle.parity.specs.Questions.{Question}
 use Rattle.shape.proofs.Refusals.{door-passed, door-refused}
 use Rattle.array_memory.specs.Lengths.{rowsLengths}
 use Rattle.array_memory.specs.Memory.{Memory, withRows, noMemory}
-use Rattle.cycle.specs.Calls.{startQuestions, startCall}
+use Rattle.array_questions.specs.Questions.{startQuestions}
+use Rattle.cycle.specs.Calls.{startCall}
 use Rattle.cycle.proofs.Given.{gives-refusal, act-done}
 use Rattle.cycle.proofs.Cycle.start.Statement.{statement}
 use Rattle.cycle.proofs.Cycle.start.Tie as tie

@@ -10,8 +10,9 @@ use Rattle.shape.proofs.Asking.{both-asked}
 use Rattle.array_memory.specs.Blocks.{blocks}
 use Rattle.array_memory.specs.Lengths.{allLengths}
 use Rattle.array_memory.specs.Memory.{Memory, withAll, noMemory}
+use Rattle.array_questions.specs.Questions.{lentQuestions}
 use Rattle.cycle.specs.Record.{cycleQuestion}
-use Rattle.cycle.specs.Calls.{lentQuestions, stepCall}
+use Rattle.cycle.specs.Calls.{stepCall}
 use Rattle.cycle.proofs.Given.{gives-refusal}
 use Rattle.cycle.proofs.Cycle.step.Statement.{statement}
 use Rattle.cycle.proofs.Cycle.step.Tie as tie

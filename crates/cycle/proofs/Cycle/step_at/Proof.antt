@@ -16,6 +16,7 @@ use Rattle.parity.proofs.Taken.{first-yes}
 use Rattle.parity.proofs.Longest.{lookups-high}
 use Rattle.parity.proofs.MatrixFacts.{matrixClaim}
 use Rattle.shape.proofs.Refusals.{first-rest, length-lent, CallPassed, call-passed}
+use Rattle.array_questions.specs.Questions.{stepArguments, lentQuestions}
 use Rattle.schedule.specs.Schedule.{Entry, opening, schedule}
 use Rattle.array_memory.specs.Blocks.{blocksOf}
 use Rattle.array_memory.specs.Lengths.{allWanted, allLengths, Sized}
@@ -31,7 +32,7 @@ use Rattle.cycle_place.proofs.Places.{place-entry}
 use Rattle.cycle_lookup.specs.Lookup.{entryMatches, lookedUp}
 use Rattle.cycle.specs.Moves.{Movable}
 use Rattle.cycle.specs.Record.{recordAt, cycleAt, nextEntry, isNext, cycleQuestion}
-use Rattle.cycle.specs.Calls.{stateOf, stepArguments, lentQuestions, stepMatches, steppedMemory, stepped, stepCall}
+use Rattle.cycle.specs.Calls.{stateOf, stepMatches, steppedMemory, stepped, stepCall}
 use Rattle.cycle.specs.Methods.{changing, doneWith}
 use Rattle.cycle.specs.declared.Cycle.{Cycle}
 use Rattle.cycle.specs.declared.Changed.{Changed}

@@ -16,7 +16,7 @@ use Rattle.shape.proofs.Refusals.{call-passed}
 use Rattle.acam.proofs.MatrixArray.{zeros}
 use Rattle.array_memory.specs.Lengths.{allWanted, allLengths}
 use Rattle.array_memory.specs.Memory.{withAll, noMemory}
-use Rattle.cycle.specs.Calls.{stepArguments}
+use Rattle.array_questions.specs.Questions.{stepArguments}
 use Rattle.cycle.proofs.Cycle.step_lent.Statement.{statement}
 use Rattle.cycle.proofs.Cycle.step_lent.Tie as tie
 

@@ -12,7 +12,8 @@ use Rattle.shape.proofs.Calling.{call-done}
 use Rattle.array_memory.specs.Lengths.{rowsWanted, rowsLengths, RowsSized}
 use Rattle.array_memory.specs.Memory.{Memory, withRows, noMemory}
 use Rattle.array_memory.proofs.Asked.{rows-sized}
-use Rattle.cycle.specs.Calls.{stateOf, zeroRows, startArguments, started, startCall}
+use Rattle.array_questions.specs.Questions.{startArguments}
+use Rattle.cycle.specs.Calls.{stateOf, zeroRows, started, startCall}
 use Rattle.cycle.proofs.CycleRecord.{start-record}
 use Rattle.cycle.proofs.calls.start_lent.Statement.{statement}
 use Rattle.cycle.proofs.calls.start_lent.Tie as tie

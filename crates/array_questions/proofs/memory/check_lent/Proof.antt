@@ -1,4 +1,4 @@
--- `cycle::questions::check_lent` meets its contract: 6 on all lengths, after an answer. Assumes nothing.
+-- `array_questions::memory::check_lent` meets its contract: 6 on all lengths, after an answer. Assumes nothing.
 use mathlib.Core.Path.{_≡_, ap, ap₂, _∙_}
 use mathlib.Core.List.{List, [], _∷_}
 use Prim.Native.Nat.{ℕ}
@@ -7,8 +7,8 @@ use borrow.Author.Needs.{needs}
 use Rattle.parity.specs.Lists.{alongside}
 use Rattle.parity.specs.Questions.{question}
 use Rattle.shape.specs.Shapes.{thenSays}
-use Rattle.cycle.proofs.questions.check_lent.Statement.{statement}
-use Rattle.cycle.proofs.questions.check_lent.Tie as tie
+use Rattle.array_questions.proofs.memory.check_lent.Statement.{statement}
+use Rattle.array_questions.proofs.memory.check_lent.Tie as tie
 
 -- the place of the sizes, from that of the comparison
 abbrev sized : tie.After-same-lengths → tie.After-sizes

@@ -1,5 +1,4 @@
-// The questions of the calls on the memory, asked in their order: each function gives the shape's sizes, or the number of the first
-// no.
+// The questions of the calls on the whole memory.
 use array_memory::blocks::block_count;
 use parity::Shape;
 use shape::questions::same_lengths;
@@ -10,7 +9,7 @@ ghost use mathlib.Core.List.{[], _∷_};
 ghost use Rattle.parity.specs.Questions.{firstNo, lengthsQuestion};
 ghost use Rattle.shape.specs.Shapes.{checkedSays, sizesIf, sizesIn, thenSays};
 ghost use Rattle.array_memory.specs.Blocks.{blocks};
-ghost use Rattle.cycle.specs.Calls.{clearQuestions, startQuestions};
+ghost use Rattle.array_questions.specs.Questions.{clearQuestions, startQuestions};
 
 // Clear: 6 on the whole memory.
 pub fn check_clear(

@@ -1,4 +1,4 @@
--- `cycle::questions::check_clear` meets its contract: 6 on all lengths, after the shape. Assumes nothing.
+-- `array_questions::memory::check_clear` meets its contract: 6 on all lengths, after the shape. Assumes nothing.
 use mathlib.Core.Path.{_≡_, refl, ap, _∙_}
 use mathlib.Core.List.{List, [], _∷_}
 use Prim.Native.Nat.{ℕ}
@@ -9,8 +9,8 @@ use Rattle.parity.specs.Questions.{shapeQuestions}
 use Rattle.shape.proofs.Refusals.{shape-asked, sizes-known}
 use Rattle.shape.proofs.Asking.{lengths-asked}
 use Rattle.array_memory.specs.Blocks.{blocks}
-use Rattle.cycle.proofs.questions.check_clear.Statement.{statement}
-use Rattle.cycle.proofs.questions.check_clear.Tie as tie
+use Rattle.array_questions.proofs.memory.check_clear.Statement.{statement}
+use Rattle.array_questions.proofs.memory.check_clear.Tie as tie
 
 -- the place of the sizes, from that of the answer
 abbrev sized : tie.After-same-lengths → tie.After-sizes

@@ -1,11 +1,11 @@
--- `acam::order::power_of_two` meets its contract: 2^8 and less is below 2^64, so nothing is shifted out. Assumes nothing.
+-- `shape::byte::power_of_two` meets its contract: 2^8 and less is below 2^64, so nothing is shifted out. Assumes nothing.
 use Prim.Native.Nat.{_^_, _<_}
 use native.Mathlib.Nat.{mod-eq-of-lt, one-mul}
 use native.Mathlib.Omega.{arith}
 use lib.Pow.{pow-lt}
 use borrow.Author.Needs.{needs}
-use Rattle.acam.proofs.order.power_of_two.Statement.{statement}
-use Rattle.acam.proofs.order.power_of_two.Tie as tie
+use Rattle.shape.proofs.byte.power_of_two.Statement.{statement}
+use Rattle.shape.proofs.byte.power_of_two.Tie as tie
 
 shl-result : tie.Need-shl-result
 shl-result c = search needs

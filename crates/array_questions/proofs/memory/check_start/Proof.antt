@@ -1,4 +1,4 @@
--- `cycle::questions::check_start` meets its contract: 15, and then 6 on counters, flags and totals. Assumes nothing.
+-- `array_questions::memory::check_start` meets its contract: 15, and then 6 on counters, flags and totals. Assumes nothing.
 use mathlib.Core.Path.{_≡_, refl, ap, _∙_}
 use mathlib.Core.List.{List, [], _∷_, _++_}
 use Prim.Native.Nat.{ℕ}
@@ -10,9 +10,9 @@ use Rattle.shape.specs.Shapes.{sizesOf}
 use Rattle.shape.proofs.Refusals.{shape-asked, ask}
 use Rattle.shape.proofs.Asking.{lengths-asked}
 use Rattle.array_memory.specs.Blocks.{blocks}
-use Rattle.cycle.specs.Calls.{startArguments}
-use Rattle.cycle.proofs.questions.check_start.Statement.{statement}
-use Rattle.cycle.proofs.questions.check_start.Tie as tie
+use Rattle.array_questions.specs.Questions.{startArguments}
+use Rattle.array_questions.proofs.memory.check_start.Statement.{statement}
+use Rattle.array_questions.proofs.memory.check_start.Tie as tie
 
 -- the places of 15 and of the shape, each from one that follows
 abbrev skipped : tie.After-same-lengths → tie.After-check
