@@ -62,7 +62,9 @@ module _ (c : tie.After-slice-known2) where
   now = rules ++ drop (shape .width) (start .args .part .now)
 
   sized : length now ≡ shape .width + start .args .checks
-  sized = omega (arith, length-append rules (drop (shape .width) (start .args .part .now)), length-drop (shape .width) (start .args .part .now), counted, long start)
+  sized =
+      let kept = drop (shape .width) (start .args .part .now) in
+      omega (arith, length-append rules kept, length-drop (shape .width) (start .args .part .now), counted, long start)
 
   rest : length (midOf (shape .width) (length now - shape .width) now) ≡ checks shape
   rest = omega (arith, ap length (tail-is (shape .width) now), length-drop (shape .width) now, sized, start .pre .checks)
