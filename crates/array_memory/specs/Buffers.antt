@@ -1,8 +1,9 @@
 -- The memory that lent buffers are a part of: as they were when the call began, and as it leaves them. One that is lent to be read is left as it was.
+use denote.Ref.{RefT}
 use mathlib.Core.List.{List}
 use Prim.Native.Nat.{ℕ}
 use Rattle.shape.specs.Lent.{Lent, was, left}
-use Rattle.array_memory.specs.Memory.{Memory, withCells, withLines, withArray, withFlagged, withRows}
+use Rattle.array_memory.specs.Memory.{Memory, withCells, withLines, withArray, withFlagged, withRows, withAll, noMemory}
 
 abbrev pub wasCells : Lent (List ℕ) → Memory → Memory
 wasCells cells mem = withCells (was cells) mem
@@ -39,3 +40,10 @@ wasAll cells lines counters flags totals mem = wasArray cells lines (wasRows cou
 
 abbrev pub leftAll : Lent (List ℕ) → Lent (List ℕ) → Lent (List ℕ) → Lent (List ℕ) → Lent (List ℕ) → Memory → Memory
 leftAll cells lines counters flags totals mem = leftArray cells lines (leftRows counters flags totals mem)
+
+-- where a call begins, the memory of these buffers alone, for what a function requires
+abbrev pub nowRows : RefT (List ℕ) → RefT (List ℕ) → RefT (List ℕ) → Memory
+nowRows counters flags totals = withRows (counters .now) (flags .now) (totals .now) noMemory
+
+abbrev pub nowAll : RefT (List ℕ) → RefT (List ℕ) → RefT (List ℕ) → RefT (List ℕ) → RefT (List ℕ) → Memory
+nowAll cells lines counters flags totals = withAll (cells .now) (lines .now) (counters .now) (flags .now) (totals .now) noMemory

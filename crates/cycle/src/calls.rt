@@ -28,9 +28,9 @@ ghost use Rattle.parity.specs.Questions.{firstNo};
 ghost use Rattle.shape.specs.Answers.{accepted, giving};
 ghost use Rattle.shape.specs.Lent.{was, left};
 ghost use Rattle.shape.specs.Shapes.{Passed};
-ghost use Rattle.array_memory.specs.Buffers.{wasCells, leftCells, wasRows, leftRows, wasAll, leftAll};
+ghost use Rattle.array_memory.specs.Buffers.{wasCells, leftCells, wasRows, leftRows, wasAll, leftAll, nowRows, nowAll};
 ghost use Rattle.array_memory.specs.Lengths.{rowsLengths, allLengths};
-ghost use Rattle.array_memory.specs.Memory.{Memory, withRows, withAll, noMemory};
+ghost use Rattle.array_memory.specs.Memory.{Memory};
 ghost use Rattle.array_questions.specs.Questions.{clearQuestions, startQuestions, lentQuestions};
 ghost use Rattle.cycle_place.specs.Walk.{MatrixLent};
 ghost use Rattle.cycle.specs.declared.Cycle.{Cycle as CycleRecord};
@@ -68,8 +68,7 @@ pub fn clear_lent(
     flags: &mut [u8],
     totals: &mut [u8],
 )
-    requires { ⌜ Passed (clearQuestions shape (allLengths (withAll (now cells) (now lines) (now counters) (now flags) (now totals) noMemory)))
-        shape sizes ⌝ }
+    requires { ⌜ Passed (clearQuestions shape (allLengths (nowAll cells lines counters flags totals))) shape sizes ⌝ }
     ensures { λ _. ⌜ ((mem : Memory) (cycle : CycleRecord) → clearCall shape (stateOf (wasAll cells lines counters flags totals mem) cycle)
         ≡ giving (accepted 0) [] (stateOf (leftAll cells lines counters flags totals mem) idle)) ⌝ }
 {
@@ -87,7 +86,7 @@ pub fn start_lent(
     flags: &mut [u8],
     totals: &mut [u8],
 ) -> Cycle
-    requires { ⌜ Passed (startQuestions shape skip (rowsLengths (withRows (now counters) (now flags) (now totals) noMemory))) shape sizes ⌝ }
+    requires { ⌜ Passed (startQuestions shape skip (rowsLengths (nowRows counters flags totals))) shape sizes ⌝ }
     ensures { λ r. ⌜ ((mem : Memory) (cycle : CycleRecord) → startCall shape (stateOf (wasRows counters flags totals mem) cycle) skip
         ≡ giving (accepted 0) [] (stateOf (leftRows counters flags totals mem) r)) ⌝ }
 {
@@ -218,8 +217,7 @@ impl Cycle {
         totals: &mut [u8],
         matches: &mut [u8],
     ) -> Changed
-        requires { ⌜ Passed (lentQuestions shape []
-            (allLengths (withAll (now cells) (now lines) (now counters) (now flags) (now totals) noMemory)) (length (now matches))) shape sizes ⌝ }
+        requires { ⌜ Passed (lentQuestions shape [] (allLengths (nowAll cells lines counters flags totals)) (length (now matches))) shape sizes ⌝ }
         ensures { λ r. ⌜ ((mem : Memory) → stepCall shape (stateOf (wasAll cells lines counters flags totals mem) self) (was matches)
             ≡ changing r (left matches) (leftAll cells lines counters flags totals mem)) ⌝ }
     {
@@ -254,8 +252,7 @@ impl Cycle {
         matches: &mut [u8],
     ) -> Changed
         requires { ⌜ MatrixLent shape checks (now matrix) ⌝ }
-        requires { ⌜ firstNo (lentQuestions shape []
-            (allLengths (withAll (now cells) (now lines) (now counters) (now flags) (now totals) noMemory)) (length (now matches))) ≡ 0 ⌝ }
+        requires { ⌜ firstNo (lentQuestions shape [] (allLengths (nowAll cells lines counters flags totals)) (length (now matches))) ≡ 0 ⌝ }
         ensures { λ r. ⌜ ((mem : Memory) → stepCall shape (stateOf (wasAll cells lines counters flags totals mem) self) (was matches)
             ≡ changing r (left matches) (leftAll cells lines counters flags totals mem)) ⌝ }
     {

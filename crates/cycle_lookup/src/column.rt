@@ -10,8 +10,8 @@ use shape::byte::fill;
 ghost use mathlib.Core.Path.{_≡_};
 ghost use lib.ListN.{length};
 ghost use Rattle.shape.specs.Lent.{was, left};
-ghost use Rattle.array_memory.specs.Memory.{Memory, withAll, noMemory};
-ghost use Rattle.array_memory.specs.Buffers.{wasArray, wasAll, leftAll};
+ghost use Rattle.array_memory.specs.Memory.{Memory};
+ghost use Rattle.array_memory.specs.Buffers.{wasArray, wasAll, leftAll, nowAll};
 ghost use Rattle.cycle_place.specs.Walk.{testOf};
 ghost use Rattle.cycle_lookup.specs.Lookup.{entryMatches, lookedUp};
 ghost use Rattle.cycle_lookup.specs.Rows.{TestNext, RowsLent};
@@ -32,7 +32,7 @@ pub fn make_test(
     matches: &mut [u8],
 )
     requires { ⌜ TestNext skip shape place columns ends ⌝ }
-    requires { ⌜ RowsLent shape (withAll (now cells) (now lines) (now counters) (now flags) (now totals) noMemory) (length (now matches)) ⌝ }
+    requires { ⌜ RowsLent shape (nowAll cells lines counters flags totals) (length (now matches)) ⌝ }
     ensures matched { λ _. ⌜ ((mem : Memory) → entryMatches shape (testOf skip shape place) (wasArray cells lines mem) ≡ left matches) ⌝ }
     ensures stepped { λ _. ⌜ ((mem : Memory)
         → lookedUp shape (testOf skip shape place) (wasAll cells lines counters flags totals mem) ≡ leftAll cells lines counters flags totals mem) ⌝ }

@@ -13,8 +13,8 @@ ghost use lib.ListN.{length, replicate};
 ghost use Rattle.parity.specs.Matrix.{cycleSteps};
 ghost use Rattle.shape.specs.Answers.{accepted, giving};
 ghost use Rattle.shape.specs.Lent.{was, left};
-ghost use Rattle.array_memory.specs.Buffers.{wasAll, leftAll};
-ghost use Rattle.array_memory.specs.Memory.{Memory, withAll, noMemory};
+ghost use Rattle.array_memory.specs.Buffers.{wasAll, leftAll, nowAll};
+ghost use Rattle.array_memory.specs.Memory.{Memory};
 ghost use Rattle.cycle_lookup.specs.Rows.{RowsLent};
 ghost use Rattle.cycle.specs.Calls.{stateOf};
 ghost use Rattle.cycle.specs.Methods.{changing, doneWith};
@@ -33,7 +33,7 @@ fn run_open(
     matches: &mut [u8],
 ) -> Cycle
     requires { ⌜ Started shape cycle ⌝ }
-    requires { ⌜ RowsLent shape (withAll (now cells) (now lines) (now counters) (now flags) (now totals) noMemory) (length (now matches)) ⌝ }
+    requires { ⌜ RowsLent shape (nowAll cells lines counters flags totals) (length (now matches)) ⌝ }
     ensures { λ r. ⌜ ((mem : Memory) → let st = stateOf (wasAll cells lines counters flags totals mem) cycle in
         giving (accepted 0) (lastMatches (cycle .skip) shape (st .memory))
         (afterSteps shape st (replicate (cycleSteps (cycle .skip) shape) (was matches)))

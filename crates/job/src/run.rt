@@ -9,8 +9,8 @@ use shape::byte::wide;
 ghost use mathlib.Core.Path.{_≡_};
 ghost use lib.ListN.{length};
 ghost use Rattle.shape.specs.Lent.{was, left};
-ghost use Rattle.array_memory.specs.Buffers.{wasCells, leftCells, leftAll};
-ghost use Rattle.array_memory.specs.Memory.{Memory, withAll, noMemory};
+ghost use Rattle.array_memory.specs.Buffers.{wasCells, leftCells, leftAll, nowAll};
+ghost use Rattle.array_memory.specs.Memory.{Memory, noMemory};
 ghost use Rattle.cycle_lookup.specs.Rows.{RowsLent};
 ghost use Rattle.cycle.specs.Record.{idle};
 ghost use Rattle.cycle.specs.Calls.{stateOf};
@@ -65,7 +65,7 @@ pub(crate) fn run_calls(
     matches: &mut [u8],
 ) -> Changed
     requires { ⌜ Ready (now input) shape ⌝ }
-    requires { ⌜ RowsLent shape (withAll (now cells) (now lines) (now counters) (now flags) (now totals) noMemory) (length (now matches)) ⌝ }
+    requires { ⌜ RowsLent shape (nowAll cells lines counters flags totals) (length (now matches)) ⌝ }
     ensures { λ r. ⌜ jobRun (was input) ≡ changing r (left matches) (leftAll cells lines counters flags totals noMemory) ⌝ }
 {
     Cycle::IDLE.clear(shape, cells, lines, counters, flags, totals);
