@@ -2,12 +2,12 @@
 use mathlib.Core.Path.{_≡_, refl, sym, _∙_, ap}
 use mathlib.Core.Bool.{Bool, true, false}
 use mathlib.Core.List.{List}
-use Prim.Native.Nat.{ℕ, zero, suc, _+_, _*_}
+use Prim.Native.Nat.{ℕ, _+_, _*_}
 use native.Mathlib.Omega.{arith}
-use lib.ListN.{length, getD, replicate, length-replicate}
+use lib.ListN.{length, replicate, length-replicate}
 use Rattle.parity.specs.Lists.{tabulate}
 use Rattle.parity.specs.declared.Shape.{Shape}
-use Rattle.parity.proofs.ListLaws.{length-tabulate, tabulate-same, tabulate-constant}
+use Rattle.parity.proofs.ListLaws.{length-tabulate, tabulate-same, tabulate-constant, same-at}
 use Rattle.shape.proofs.Calling.{call-keeps}
 use Rattle.array_memory.specs.Blocks.{blocksOf, blockAt, countFlagged, blockTotals}
 use Rattle.array_memory.specs.Memory.{Memory, noMemory}
@@ -30,15 +30,10 @@ pub record Totalled (s : Shape) (flags totals : List ℕ) : Type 0 where
   pub counted : totals ≡ blockTotals flags
 
 -- without a flag every total is 0
-zero-byte : (m j : ℕ) → let zeros : List ℕ = replicate m 0 in getD zeros j 0 ≡ 0
-zero-byte zero j = refl
-zero-byte (suc m) zero = refl
-zero-byte (suc m) (suc j) = zero-byte m j
-
 zero-block : (m i : ℕ) → countFlagged (blockAt (replicate m 0) i) ≡ 0
 zero-block m i =
     zero-count (blockAt (replicate m 0) i)
-    (λ j h. block-flag (replicate m 0) i j (omega (arith, block-low (replicate m 0) i)) ∙ zero-byte m (i * 64 + j))
+    (λ j h. block-flag (replicate m 0) i j (omega (arith, block-low (replicate m 0) i)) ∙ same-at {A = ℕ} m (i * 64 + j) 0)
 
 zero-totals : (m : ℕ) → replicate (blocksOf m) 0 ≡ blockTotals (replicate m 0)
 unfolding blockTotals
