@@ -190,8 +190,8 @@ levels-tested s e given tested = ap (λ q. every (λ v. ltb v q) given) (sym e) 
 
 -- ---- the answer to all the questions of a call, by its cases
 module _ (questions : List Question) (s : Shape) (answer : Checked) (e : checkedSays answer ≡ sizesIf (firstNo questions) s) where
-  pub door-passed : {z : Sizes} → answer ≡ checked.Taken z → Passed questions s z
-  door-passed {z} is = passes questions s z (told e is)
+  pub answer-taken : {z : Sizes} → answer ≡ checked.Taken z → Passed questions s z
+  answer-taken {z} is = passes questions s z (told e is)
 
-  pub door-refused : (n : ℕ) → answer ≡ checked.Refused n → (firstNo questions ≡ n) × (0 < n)
-  door-refused n is = fails questions s n (told e is)
+  pub answer-refused : (n : ℕ) → answer ≡ checked.Refused n → (firstNo questions ≡ n) × (0 < n)
+  answer-refused n is = fails questions s n (told e is)

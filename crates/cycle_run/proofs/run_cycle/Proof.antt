@@ -10,7 +10,7 @@ use Rattle.parity.specs.Questions.{Question, firstNo, shapeQuestions, skipQuest
 use Rattle.parity.proofs.Taken.{first-yes}
 use Rattle.shape.specs.Answers.{accepted, giving}
 use Rattle.shape.specs.Shapes.{checkedSays, sizesIf, sizesIn, Passed}
-use Rattle.shape.proofs.Refusals.{door-passed, door-refused, shape-asked, sizes-told, ask, length-lent, CallPassed, call-passed}
+use Rattle.shape.proofs.Refusals.{answer-taken, answer-refused, shape-asked, sizes-told, ask, length-lent, CallPassed, call-passed}
 use Rattle.shape.proofs.Asking.{both-asked}
 use Rattle.shape.proofs.Calling.{call-done}
 use Rattle.array_memory.specs.Blocks.{blocks}
@@ -89,7 +89,7 @@ module _ (c : tie.After-known-told2) where
   asked : Passed (questions entered) (entered .args .shape) (c .before .sizes .given .0 .0)
   asked =
       let answer = c .before .before .before in
-      door-passed (questions entered) (entered .args .shape) (answer .check-lent .result) (answered answer) (c .before .sizes .given .1)
+      answer-taken (questions entered) (entered .args .shape) (answer .check-lent .result) (answered answer) (c .before .sizes .given .1)
 
   parts :
       CallPassed (entered .args .shape) (startArguments (entered .args .shape) (entered .args .skip))
@@ -196,7 +196,7 @@ returns c =
     let start = begun answer in
     let number = told .number .given in
     λ mem. gives-refusal (questions start) (start .args .matches .now) (lent start mem) (start .args .cycle) _ _ (number .0 .0)
-    (door-refused (questions start) (start .args .shape) (answer .check-lent .result) (answered answer) (number .0 .0) (number .1)) (c .refused .ensures)
+    (answer-refused (questions start) (start .args .shape) (answer .check-lent .result) (answered answer) (number .0 .0) (number .1)) (c .refused .ensures)
 
 same-length : tie.Need-same-length
 same-length c = let steps = ran (c .before) in steps .run-open .kept .1 .1 .1 .1 .0 ∙ opened (steps .before) .start-lent .kept .1 .1 .1 .0

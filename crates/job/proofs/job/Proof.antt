@@ -13,7 +13,7 @@ use Rattle.parity.specs.declared.Shape.{Shape}
 use Rattle.parity.proofs.Taken.{limits}
 use Rattle.shape.specs.Answers.{outcomeSays}
 use Rattle.shape.specs.Shapes.{Passed}
-use Rattle.shape.proofs.Refusals.{door-passed, door-refused}
+use Rattle.shape.proofs.Refusals.{answer-taken, answer-refused}
 use Rattle.array_memory.specs.Blocks.{blocksOf}
 use Rattle.array_memory.specs.Memory.{withAll, noMemory}
 use Rattle.cycle.specs.Calls.{State, stateOf}
@@ -78,7 +78,7 @@ module _ (c : tie.After-sizes) where
   unfolding jobRefusal
   passed =
       let answer = c .before .before in
-      door-passed (jobQuestions (start .args .input .now)) (jobShape (start .args .input .now)) (answer .check-job .result) (answer .check-job .ensures)
+      answer-taken (jobQuestions (start .args .input .now)) (jobShape (start .args .input .now)) (answer .check-job .result) (answer .check-job .ensures)
       (c .sizes .given .1)
 
   none : jobRefusal (start .args .input .now) ≡ 0
@@ -316,7 +316,7 @@ returns-2 c =
     let answer = named .before .before in
     let number = named .number .given in
     refused-job input (lent (entered room)) (has room) (number .0 .0)
-    (door-refused (jobQuestions input) (jobShape input) (answer .check-job .result) (answer .check-job .ensures) (number .0 .0) (number .1))
+    (answer-refused (jobQuestions input) (jobShape input) (answer .check-job .result) (answer .check-job .ensures) (number .0 .0) (number .1))
     (put .put-refusal .ensures)
 
 same-length-2 : tie.Need-same-length-2

@@ -5,7 +5,7 @@ use lib.ListN.{length}
 use borrow.Author.Needs.{needs}
 use Rattle.parity.specs.Questions.{Question}
 use Rattle.shape.specs.Answers.{accepted, refused, answering}
-use Rattle.shape.proofs.Refusals.{door-passed, door-refused}
+use Rattle.shape.proofs.Refusals.{answer-taken, answer-refused}
 use Rattle.shape.proofs.Calling.{if-no}
 use Rattle.panel.specs.Panel.{noReading, panelReading, panelQuestions, panelCall}
 use Rattle.panel.proofs.panel.Statement.{statement}
@@ -32,7 +32,7 @@ panel-lent-requires c κs =
     let sizes = c .before in
     let asked = sizes .before .before in
     let start = begun asked in
-    door-passed (questions start) (start .args .shape) (asked .check-panel .result) (asked .check-panel .ensures) (sizes .sizes .given .1)
+    answer-taken (questions start) (start .args .shape) (asked .check-panel .result) (asked .check-panel .ensures) (sizes .sizes .given .1)
 
 -- refused
 returns : tie.Need-returns
@@ -43,7 +43,7 @@ returns c =
     let number = c .before .number .given in
     let value = panelReading (start .args .flags .now) (start .args .totals .now) in
     let no =
-    door-refused (questions start) (start .args .shape) (asked .check-panel .result) (asked .check-panel .ensures) (number .0 .0) (number .1)
+    answer-refused (questions start) (start .args .shape) (asked .check-panel .result) (asked .check-panel .ensures) (number .0 .0) (number .1)
     in
     λ mem. ap (λ n. answering noReading n value) (no .0) ∙ if-no (number .0 .0) (no .1) (accepted value) (refused noReading (number .0 .0))
 

@@ -3,7 +3,7 @@ use mathlib.Core.List.{List, []}
 use lib.ListN.{length}
 use borrow.Author.Needs.{needs}
 use Rattle.parity.specs.Questions.{Question}
-use Rattle.shape.proofs.Refusals.{door-passed, door-refused}
+use Rattle.shape.proofs.Refusals.{answer-taken, answer-refused}
 use Rattle.shape.proofs.Calling.{call-refused}
 use Rattle.array_memory.specs.Memory.{withCells}
 use Rattle.array_questions.specs.Questions.{cellsQuestions, readArguments}
@@ -32,7 +32,7 @@ read-lent-requires c κs =
     let sizes = c .before .before in
     let asked = sizes .before .before in
     let start = begun asked in
-    door-passed (questions start) (start .args .shape) (asked .check-read .result) (asked .check-read .ensures) (sizes .sizes .given .1)
+    answer-taken (questions start) (start .args .shape) (asked .check-read .result) (asked .check-read .ensures) (sizes .sizes .given .1)
 
 -- refused
 returns : tie.Need-returns
@@ -42,7 +42,7 @@ returns c =
     let start = begun asked in
     let number = c .before .number .given in
     λ mem. call-refused (questions start) (start .args .out .now) (withCells (start .args .cells .now) mem) _ (number .0 .0)
-    (door-refused (questions start) (start .args .shape) (asked .check-read .result) (asked .check-read .ensures) (number .0 .0) (number .1))
+    (answer-refused (questions start) (start .args .shape) (asked .check-read .result) (asked .check-read .ensures) (number .0 .0) (number .1))
 
 same-length : tie.Need-same-length
 same-length c = search needs

@@ -8,7 +8,7 @@ use Rattle.parity.specs.Shape.{columns}
 use Rattle.parity.specs.Codeword.{isCodeword}
 use Rattle.parity.specs.Questions.{Question}
 use Rattle.shape.specs.Answers.{accepted, refused, answering}
-use Rattle.shape.proofs.Refusals.{door-passed, door-refused}
+use Rattle.shape.proofs.Refusals.{answer-taken, answer-refused}
 use Rattle.shape.proofs.Calling.{if-no}
 use Rattle.array_memory.specs.Geometry.{rowAt}
 use Rattle.array_questions.specs.Questions.{cellsQuestions, soundArguments}
@@ -37,7 +37,7 @@ sound-lent-requires c κs =
     let sizes = c .before in
     let asked = sizes .before .before in
     let start = begun asked in
-    door-passed (questions start) (start .args .shape) (asked .check-sound .result) (asked .check-sound .ensures) (sizes .sizes .given .1)
+    answer-taken (questions start) (start .args .shape) (asked .check-sound .result) (asked .check-sound .ensures) (sizes .sizes .given .1)
 
 -- refused
 returns : tie.Need-returns
@@ -48,7 +48,7 @@ returns c =
     let s = start .args .shape in
     let holds = isCodeword s (rowAt (columns s) (start .args .cells .now) (start .args .row)) in
     let number = c .before .number .given in
-    let no = door-refused (questions start) s (asked .check-sound .result) (asked .check-sound .ensures) (number .0 .0) (number .1) in
+    let no = answer-refused (questions start) s (asked .check-sound .result) (asked .check-sound .ensures) (number .0 .0) (number .1) in
     λ mem. ap (λ n. answering false n holds) (no .0) ∙ if-no (number .0 .0) (no .1) (accepted holds) (refused false (number .0 .0))
 
 -- tested

@@ -7,7 +7,7 @@ use Rattle.parity.specs.Match.{taskVector}
 use Rattle.parity.specs.Shape.{columns}
 use Rattle.parity.specs.Questions.{Question}
 use Rattle.shape.specs.Answers.{none, accepted, refused, answering}
-use Rattle.shape.proofs.Refusals.{door-passed, door-refused}
+use Rattle.shape.proofs.Refusals.{answer-taken, answer-refused}
 use Rattle.shape.proofs.Calling.{if-no}
 use Rattle.array_memory.specs.Geometry.{rowMatch}
 use Rattle.array_lookup.specs.Lookups.{arrayQuestions, firstArguments, firstRow, firstCall}
@@ -36,7 +36,7 @@ first-lent-requires c κs =
     let sizes = c .before in
     let answer = sizes .before .before in
     let start = begun answer in
-    door-passed (questions start) (start .args .shape) (answer .check-first .result) (answer .check-first .ensures) (sizes .sizes .given .1)
+    answer-taken (questions start) (start .args .shape) (answer .check-first .result) (answer .check-first .ensures) (sizes .sizes .given .1)
 
 -- refused
 returns : tie.Need-returns
@@ -47,7 +47,7 @@ returns c =
     let s = start .args .shape in
     let found = firstRow (s .rows) (rowMatch (columns s) (taskVector s (start .args .inputs .now)) (start .args .cells .now) (start .args .lines .now)) in
     let number = c .before .number .given in
-    let no = door-refused (questions start) s (answer .check-first .result) (answer .check-first .ensures) (number .0 .0) (number .1) in
+    let no = answer-refused (questions start) s (answer .check-first .result) (answer .check-first .ensures) (number .0 .0) (number .1) in
     λ mem. ap (λ n. answering none n found) (no .0) ∙ if-no (number .0 .0) (no .1) (accepted found) (refused none (number .0 .0))
 
 -- searched

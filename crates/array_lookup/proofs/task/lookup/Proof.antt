@@ -3,7 +3,7 @@ use mathlib.Core.List.{List}
 use lib.ListN.{length}
 use borrow.Author.Needs.{needs}
 use Rattle.parity.specs.Questions.{Question}
-use Rattle.shape.proofs.Refusals.{door-passed, door-refused}
+use Rattle.shape.proofs.Refusals.{answer-taken, answer-refused}
 use Rattle.shape.proofs.Calling.{call-refused}
 use Rattle.array_memory.specs.Memory.{withArray}
 use Rattle.array_lookup.specs.Lookups.{arrayQuestions, lookupArguments, lookupCall}
@@ -36,7 +36,7 @@ lookup-lent-requires c κs =
     let sizes = c .before .before in
     let answer = sizes .before .before in
     let start = begun (answer .before) in
-    door-passed (questions start) (start .args .shape) (answer .check-lookup .result) (answer .check-lookup .ensures) (sizes .sizes .given .1)
+    answer-taken (questions start) (start .args .shape) (answer .check-lookup .result) (answer .check-lookup .ensures) (sizes .sizes .given .1)
 
 -- refused
 returns : tie.Need-returns
@@ -46,7 +46,7 @@ returns c =
     let start = begun (answer .before) in
     let number = c .before .number .given in
     λ mem. call-refused (questions start) (start .args .matches .now) (withArray (start .args .cells .now) (start .args .lines .now) mem) _ (number .0 .0)
-    (door-refused (questions start) (start .args .shape) (answer .check-lookup .result) (answer .check-lookup .ensures) (number .0 .0) (number .1))
+    (answer-refused (questions start) (start .args .shape) (answer .check-lookup .result) (answer .check-lookup .ensures) (number .0 .0) (number .1))
 
 same-length : tie.Need-same-length
 same-length c = search needs

@@ -5,7 +5,7 @@ use lib.ListN.{length}
 use borrow.Author.Needs.{needs}
 use Rattle.parity.specs.Questions.{Question}
 use Rattle.shape.specs.Shapes.{Passed}
-use Rattle.shape.proofs.Refusals.{door-passed, door-refused}
+use Rattle.shape.proofs.Refusals.{answer-taken, answer-refused}
 use Rattle.array_memory.specs.Memory.{Memory, withCells}
 use Rattle.array_questions.specs.Questions.{cellsQuestions, commitArguments}
 use Rattle.array.specs.Calls.{rowWritten}
@@ -34,7 +34,7 @@ passed :
 passed c =
     let asked = c .before .before in
     let start = begun asked in
-    door-passed (questions start) (start .args .shape) (asked .check-commit .result) (asked .check-commit .ensures) (c .sizes .given .1)
+    answer-taken (questions start) (start .args .shape) (asked .check-commit .result) (asked .check-commit .ensures) (c .sizes .given .1)
 
 check-commit-requires : tie.Need-check-commit-requires
 check-commit-requires c κs = search needs
@@ -63,7 +63,7 @@ returns c =
     let start = begun asked in
     let number = told .number .given in
     λ mem. gives-refusal (questions start) [] (withCells (start .args .cells .now) mem) (start .args .self) _ _ (number .0 .0)
-    (door-refused (questions start) (start .args .shape) (asked .check-commit .result) (asked .check-commit .ensures) (number .0 .0) (number .1))
+    (answer-refused (questions start) (start .args .shape) (asked .check-commit .result) (asked .check-commit .ensures) (number .0 .0) (number .1))
     (c .refused .ensures)
 
 same-length : tie.Need-same-length

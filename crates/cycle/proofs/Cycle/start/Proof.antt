@@ -2,7 +2,7 @@
 use mathlib.Core.List.{List, []}
 use borrow.Author.Needs.{needs}
 use Rattle.parity.specs.Questions.{Question}
-use Rattle.shape.proofs.Refusals.{door-passed, door-refused}
+use Rattle.shape.proofs.Refusals.{answer-taken, answer-refused}
 use Rattle.array_memory.specs.Lengths.{rowsLengths}
 use Rattle.array_memory.specs.Memory.{Memory, withRows, noMemory}
 use Rattle.array_questions.specs.Questions.{startQuestions}
@@ -48,7 +48,7 @@ start-lent-requires c κs =
     let sizes = sized c in
     let asked = sizes .before .before in
     let start = begun asked in
-    door-passed (questions start) (start .args .shape) (asked .check-start .result) (asked .check-start .ensures) (sizes .sizes .given .1)
+    answer-taken (questions start) (start .args .shape) (asked .check-start .result) (asked .check-start .ensures) (sizes .sizes .given .1)
 
 done-requires : tie.Need-done-requires
 done-requires c κs = search needs
@@ -62,7 +62,7 @@ returns c =
     let start = begun asked in
     let number = told .number .given in
     λ mem. gives-refusal (questions start) [] (lent start mem) (start .args .self) _ _ (number .0 .0)
-    (door-refused (questions start) (start .args .shape) (asked .check-start .result) (asked .check-start .ensures) (number .0 .0) (number .1))
+    (answer-refused (questions start) (start .args .shape) (asked .check-start .result) (asked .check-start .ensures) (number .0 .0) (number .1))
     (c .refused .ensures)
 
 same-length : tie.Need-same-length

@@ -5,7 +5,7 @@ use lib.ListN.{length}
 use borrow.Author.Needs.{needs}
 use Rattle.parity.specs.Questions.{Question, firstNo, shapeQuestions}
 use Rattle.shape.specs.Shapes.{checkedSays, sizesIf, sizesIn}
-use Rattle.shape.proofs.Refusals.{door-passed, door-refused, first-found, shape-asked, sizes-known}
+use Rattle.shape.proofs.Refusals.{answer-taken, answer-refused, first-found, shape-asked, sizes-known}
 use Rattle.shape.proofs.Asking.{both-asked}
 use Rattle.array_memory.specs.Blocks.{blocks}
 use Rattle.array_memory.specs.Lengths.{allLengths}
@@ -76,7 +76,7 @@ step-lent-requires c κs =
     let sizes = sized c .before in
     let asked = sizes .before .before in
     let start = begun asked in
-    door-passed (first start) (start .args .shape) (asked .check-lent .result) (answered asked) (sizes .sizes .given .1)
+    answer-taken (first start) (start .args .shape) (asked .check-lent .result) (answered asked) (sizes .sizes .given .1)
 
 -- refused up to 6
 returns : tie.Need-returns
@@ -86,7 +86,7 @@ returns c =
     let asked = told .before .before in
     let start = begun asked in
     let number = told .number .given in
-    let no = door-refused (first start) (start .args .shape) (asked .check-lent .result) (answered asked) (number .0 .0) (number .1) in
+    let no = answer-refused (first start) (start .args .shape) (asked .check-lent .result) (answered asked) (number .0 .0) (number .1) in
     λ mem. gives-refusal _ (start .args .matches .now) (lent start mem) (start .args .self) _ _ (number .0 .0)
     (first-found (first start) (more start) (number .0 .0) (no .1) (no .0), no .1) (c .refused .ensures)
 

@@ -6,7 +6,7 @@ use native.Mathlib.Omega.{arith}
 use borrow.Author.Needs.{needs}
 use Rattle.parity.specs.Questions.{firstNo, shapeQuestions, shapeRefusal, Taken}
 use Rattle.shape.specs.Shapes.{sizesOf}
-use Rattle.shape.proofs.Refusals.{shape-asked, door-passed, door-refused}
+use Rattle.shape.proofs.Refusals.{shape-asked, answer-taken, answer-refused}
 use Rattle.job_parse.specs.Parse.{jobShape, frameQuestions, contentsQuestions}
 use Rattle.job_parse.specs.Framed.{Framed}
 use Rattle.job_parse.proofs.JobQuestions.{frame-yes, contents-yes, frame-no, shape-no, contents-no, drifts-no, none}
@@ -35,7 +35,7 @@ known c =
     let s = shaped c .shape-of .result in
     let answer = c .before .before .check-shape .result in
     let lengths = frame-yes (input c) (framed (shaped c .before)) in
-    let passed = door-passed (shapeQuestions s) s answer (shape-asked s answer (c .before .before .check-shape .ensures)) (c .sizes .given .1) in
+    let passed = answer-taken (shapeQuestions s) s answer (shape-asked s answer (c .before .before .check-shape .ensures)) (c .sizes .given .1) in
     record { long = lengths .0; short = lengths .1; shape = shaped c .shape-of .ensures; taken = passed .none; sizes = passed .sizes }
 
 taken : (c : tie.After-sizes) → Taken (jobShape (input c))
@@ -98,7 +98,7 @@ returns-4 c =
     let s = asked .before .shape-of .result in
     shape-no (begun (asked .before .before) .args .input .now) (framed (asked .before .before)) (number .0 .0)
     (subst (λ s. (firstNo (shapeQuestions s) ≡ number .0 .0) × (0 < number .0 .0)) (asked .before .shape-of .ensures)
-    (door-refused (shapeQuestions s) s answer (shape-asked s answer (asked .check-shape .ensures)) (number .0 .0) (number .1)))
+    (answer-refused (shapeQuestions s) s answer (shape-asked s answer (asked .check-shape .ensures)) (number .0 .0) (number .1)))
 
 -- all passed
 returns-5 : tie.Need-returns-5
