@@ -7,5 +7,6 @@ pub mod Reciprocal
 pub mod Missing
 pub mod DigitLoop
 pub mod DigitCells
+pub mod CellMatch
 pub mod Comparison
 pub mod TaskMatch

@@ -1,9 +1,9 @@
 -- The check matrix in an array of 255 bytes: its length, the columns that its first places hold, and how they come there. Assumes nothing.
 use mathlib.Core.Path.{_≡_, sym, _∙_, ap, ap₂}
-use mathlib.Core.List.{List}
+use mathlib.Core.List.{List, _++_}
 use Prim.Native.Nat.{ℕ, _+_, _-_, _≤_}
 use native.Mathlib.Omega.{arith}
-use lib.ListN.{length, take, replicate, length-append, length-replicate}
+use lib.ListN.{length, take, drop, replicate, length-append, length-replicate}
 use lib.Seq.{take-at, length-take-le}
 use Rattle.parity.specs.Shape.{checks, columns}
 use Rattle.parity.specs.Matrix.{ruleColumns, matrix}
@@ -55,3 +55,24 @@ module _ (s : Shape) (t : Taken s) (r : ℕ) (counted : r ≡ checks s) where
 
     pub rules-ask : RulesFit (s .errors) r (length (take (s .width) over))
     rules-ask = record { checks = omega (arith, redundancyClaim s t .high); enough = ap length rules-fill ∙ rules-sized s t ∙ sym front }
+
+-- the part of such an array in which the columns are made, and what it holds then
+module _ (s : Shape) (t : Taken s) (n : ℕ) (all : n ≡ columns s) where
+  pub part-fits : n ≤ 255
+  part-fits = omega (arith, all, columns-high s t)
+
+  pub part-sized : length (take n zeros) ≡ n
+  part-sized = length-take-le n zeros part-fits
+
+  module _ (made : List ℕ) (filled : made ≡ matrix s) where
+    made-sized : length made ≡ n
+    made-sized = ap length filled ∙ matrixClaim s t .sized ∙ sym all
+
+    pub part-within : n ≤ length (made ++ drop n zeros)
+    part-within = omega (arith, length-append made (drop n zeros), made-sized)
+
+    pub part-made : take n (made ++ drop n zeros) ≡ made
+    part-made = take-at made (drop n zeros) n made-sized
+
+    pub part-length : length (take n (made ++ drop n zeros)) ≡ n
+    part-length = ap length part-made ∙ made-sized

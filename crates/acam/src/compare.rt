@@ -2,6 +2,7 @@
 ghost use mathlib.Core.Path.{_≡_};
 ghost use Prim.Native.Nat.{_≤_};
 ghost use lib.ListN.{length, take};
+ghost use Rattle.acam.specs.Cell.{cellMatch};
 ghost use Rattle.parity.specs.Match.{answers as answersTo, matchByte, lineMatch};
 ghost use Rattle.shape.specs.Lent.{was};
 
@@ -36,4 +37,13 @@ pub fn line_match(line: u8, inputs: &[u8], row: &[u8]) -> u8
         return 0;
     }
     match_byte(inputs, row)
+}
+
+// The byte that a row's match line gives where one cell alone is fed, by that cell. One choice after the other and no early
+// return, so that a loop over the rows that calls it is compiled to vector code.
+pub fn cell_match(line: u8, input: u8, cell: u8) -> u8
+    ensures { λ r. ⌜ r ≡ cellMatch line input cell ⌝ }
+{
+    let said: u8 = if answers(input, cell) { 1 } else { 0 };
+    if line == 0 { said } else { 0 }
 }

@@ -34,8 +34,7 @@ ghost use Rattle.array_memory.specs.Memory.{Memory};
 ghost use Rattle.array_questions.specs.Questions.{clearQuestions, startQuestions, lentQuestions};
 ghost use Rattle.cycle_place.specs.Walk.{MatrixLent};
 ghost use Rattle.cycle.specs.declared.Cycle.{Cycle as CycleRecord};
-ghost use Rattle.cycle.specs.Calls.{stateOf, clearCall, programCall, commitCall, startCall};
-ghost use Rattle.cycle.specs.Calls.{stepCall};
+ghost use Rattle.cycle.specs.Calls.{stateOf, clearCall, programCall, commitCall, startCall, stepCall};
 ghost use Rattle.cycle.specs.Methods.{changing, refusedWith, doneWith};
 ghost use Rattle.cycle.specs.Record.{idle};
 

@@ -140,7 +140,7 @@ impl Cycle {
     }
 
     // The lookup at the record's place, if the record is open there with that lookup still to come: question 9.
-    pub(crate) fn locate(self, shape: Shape, checks: usize, matrix: &[u8]) -> Located
+    pub fn locate(self, shape: Shape, checks: usize, matrix: &[u8]) -> Located
         requires { ⌜ MatrixLent shape checks (now matrix) ⌝ }
         ensures { λ r. ⌜ r ≡ cond (isNext shape self) (toldAt (self .skip) shape (self .count) (self .place)) Elsewhere ⌝ }
     {
@@ -157,7 +157,7 @@ impl Cycle {
     }
 
     // The open record after a lookup, by the place of the next one.
-    pub(crate) fn moved(mut self, next: Next) -> Self
+    pub fn moved(mut self, next: Next) -> Self
         requires { ⌜ Movable self ⌝ }
         ensures { λ r. ⌜ r ≡ recordAt (self .skip) next (suc (self .count)) ⌝ }
     {

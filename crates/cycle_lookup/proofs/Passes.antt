@@ -1,31 +1,37 @@
 -- What the passes of a lookup over the rows come to, for the opening and for a test: the unit vector looks at one cell of a row, a dead line gives 0,
 -- and a pass that is not made leaves its bytes as they were. Assumes nothing.
 use mathlib.Core.Path.{_≡_, refl, sym, subst, ap, ap₂, _∙_}
-use mathlib.Core.Bool.{Bool, true, false, cond, not, _&&_}
+use mathlib.Core.Bool.{Bool, true, false, cond, not, _&&_, false≢true}
 use mathlib.Core.List.{List}
 use Prim.Native.Nat.{ℕ, suc, _+_, _*_, _%_, _^_, _≤_, _<_}
+use native.Mathlib.Nat.{mod-lt, mod-add-mod}
 use native.Mathlib.Omega.{arith}
+use lib.Arith.{lt-of-le-ne}
 use lib.Dec.{eqb, leb}
 use lib.ListN.{length, getD, replicate}
 use lib.Seq.{ext-getD}
+use borrow.Author.Tests.{eqb-true, eqb-false, le-leb, lt-leb}
 use Rattle.parity.specs.Lists.{tabulate}
 use Rattle.parity.specs.Match.{matchByte, lineMatch}
 use Rattle.parity.specs.Shape.{columns, cellCount}
 use Rattle.parity.specs.Questions.{Taken}
 use Rattle.parity.specs.declared.Shape.{Shape}
 use Rattle.parity.proofs.ListLaws.{length-tabulate, getD-tabulate, tabulate-same, tabulate-constant}
-use Rattle.schedule.specs.Schedule.{Entry, within, opening, testVector}
+use Rattle.schedule.specs.Schedule.{Entry, within, opening, unitVector, testVector}
 use Rattle.schedule.specs.Index.{placeIndex}
 use Rattle.schedule.specs.Tally.{counted, flagged, reset}
 use Rattle.schedule.proofs.Cap.{Proper, tests-proper}
 use Rattle.schedule.proofs.Index.{indexClaim}
 use Rattle.schedule.proofs.Lookup.{match-unit}
 use Rattle.schedule.proofs.Opening.{opening-matched}
+use Rattle.acam.specs.Cell.{cellMatch}
+use Rattle.acam.proofs.CellMatch.{cell-said}
 use Rattle.array_memory.specs.Blocks.{blockTotals}
 use Rattle.array_memory.specs.Geometry.{rowAt, rowMatch, matchBytes}
 use Rattle.array_memory.specs.Lengths.{Sized}
-use Rattle.array_memory.specs.Memory.{Memory}
+use Rattle.array_memory.specs.Memory.{Memory, withCounters, withRows}
 use Rattle.array_memory.proofs.RowPlaces.{row-cell, row-sized}
+use Rattle.cycle_passes.specs.Passes.{columnCells, columnMatches, reducedByte, reducedBytes, countedBytes, overwrittenBytes}
 use Rattle.cycle_place.specs.Walk.{Stands, testOf}
 use Rattle.cycle_place.specs.declared.Place.{Place}
 use Rattle.cycle_lookup.specs.Lookup.{entryMatches, countedRows, flaggedRows, totalledBlocks, resetRows, lookedUp}
@@ -76,31 +82,31 @@ bytes-made s e mem said cells look m rows mute =
     ap (λ byte. cond (eqb (getD (mem .lines) i 0) 0) byte 0) (getD-tabulate (s .rows) said i 0 h)
     ∙ sym (row-byte (columns s) (testVector s e) (mem .cells) (mem .lines) i (said i) (cells i h)))
 
--- a byte by the cells alone is 0 or 1
-pub column-low : (m : ℕ) (says : ℕ → Bool) (i : ℕ) → i < m → getD (tabulate m (λ i. cond (says i) 1 0)) i 0 ≤ 1
-column-low m says i h = rw getD-tabulate (low (says i))
-  where
-    low : (b : Bool) → cond b 1 0 ≤ 1
-    low true = omega arith
-    low false = omega arith
-
 -- a test's, each from one cell
-pub test-matches :
-    (z : ℕ) (s : Shape) (t : Taken s) (p : Place) → Stands z s p → (mem : Memory) → length (mem .cells) ≡ cellCount s
-    → (m n x : ℕ) → m ≡ s .rows → n ≡ columns s → x ≡ p .factor * s .radix ^ p .digit
-    → {looked matches : List ℕ} → looked ≡ tabulate m (λ i. cond (leb x (getD (mem .cells) (i * n + p .column) 0)) 1 0)
-    → (k : ℕ) → k ≡ s .rows → matches ≡ tabulate k (λ i. cond (eqb (getD (mem .lines) i 0) 0) (getD looked i 0) 0)
-    → matches ≡ entryMatches s (testOf z s p) mem
-unfolding testVector
-test-matches z s t p stands mem sized m n x rows wide input {looked} look k all mute =
-    let column : p .column < columns s = stands .column in
-    let said : ℕ → ℕ = λ i. cond (leb x (getD (mem .cells) (i * columns s + p .column) 0)) 1 0 in
-    let made : looked ≡ tabulate (s .rows) said = look ∙ rw (rows, wide) refl in
-    bytes-made s (testOf z s p) mem said
-    (λ i h. rw (← input)
-    (match-unit (columns s) (p .column) x (rowAt (columns s) (mem .cells) i) column (row-sized s (mem .cells) i sized h)
-    ∙ ap (λ v. cond (leb x v) 1 0) (row-cell s (mem .cells) i (p .column) column)))
-    made k all mute
+module _ (z : ℕ) (s : Shape) (t : Taken s) (p : Place) (stands : Stands z s p) (mem : Memory) (sized : length (mem .cells) ≡ cellCount s) where
+  test-row :
+      (x : ℕ) → x ≡ p .factor * s .radix ^ p .digit → (i : ℕ) → i < s .rows
+      → rowMatch (columns s) (testVector s (testOf z s p)) (mem .cells) (mem .lines) i
+      ≡ cellMatch (getD (mem .lines) i 0) x (getD (mem .cells) (i * columns s + p .column) 0)
+  unfolding testVector lineMatch
+  test-row x input i h =
+      rw (← input)
+      (row-byte (columns s) (unitVector (columns s) (p .column) x) (mem .cells) (mem .lines) i _
+      (match-unit (columns s) (p .column) x (rowAt (columns s) (mem .cells) i) (stands .column) (row-sized s (mem .cells) i sized h)
+      ∙ ap (λ v. cond (leb x v) 1 0) (row-cell s (mem .cells) i (p .column) (stands .column))
+      ∙ sym (cell-said x (getD (mem .cells) (i * columns s + p .column) 0))))
+
+  pub test-matches :
+      (n m x : ℕ) → n ≡ columns s → m ≡ s .rows → x ≡ p .factor * s .radix ^ p .digit → {column matches : List ℕ}
+      → column ≡ columnCells n (p .column) (mem .cells) m → matches ≡ columnMatches x (mem .lines) column → matches ≡ entryMatches s (testOf z s p) mem
+  unfolding entryMatches matchBytes
+  test-matches n m x wide rows input taken made =
+      let cell : ℕ → ℕ = λ i. getD (mem .cells) (i * columns s + p .column) 0 in
+      made
+      ∙ ap (columnMatches x (mem .lines)) (taken ∙ ap₂ (λ n m. columnCells n (p .column) (mem .cells) m) wide rows)
+      ∙ rw (length-tabulate (s .rows) cell)
+      (tabulate-same (s .rows) _ _ λ i h.
+      ap (cellMatch (getD (mem .lines) i 0) x) (getD-tabulate (s .rows) cell i 0 h) ∙ sym (test-row x input i h))
 
 -- the opening's, without a look at the cells
 pub opening-matches :
@@ -113,51 +119,137 @@ opening-matches s t mem sized {looked} m rows look k all mute =
 
 -- ---- the passes of a test
 
-module _ (s : Shape) (e : Entry) (mem : Memory) where
-  -- the counters after the lookup
-  abbrev pub countersAfter : List ℕ
-  countersAfter = countedRows s e (mem .counters) (entryMatches s e mem)
+-- counters count by their remainders
+pub count-reduced : (ρ : ℕ) (counters matches : List ℕ) → countedBytes ρ (reducedBytes ρ counters) matches ≡ countedBytes ρ counters matches
+count-reduced ρ counters matches =
+    let m : ℕ = length counters in
+    let own : ℕ → ℕ = reducedByte ρ counters in
+    rw (length-tabulate m own)
+    (tabulate-same m _ _ λ i h.
+    ap (λ counter. (counter + getD matches i 0) % ρ) (getD-tabulate m own i 0 h) ∙ mod-add-mod (getD counters i 0) ρ (getD matches i 0))
 
-  pub counters-made :
-      e .opens ≡ false → {matches counters : List ℕ} → matches ≡ entryMatches s e mem → (m : ℕ) → m ≡ s .rows
-      → counters ≡ tabulate m (λ i. (getD (mem .counters) i 0 + getD matches i 0) % s .radix) → counters ≡ countersAfter
-  unfolding countedRows counted
-  counters-made test looked m rows made = made ∙ rw (rows, looked, test)
+-- .. which are below ρ
+pub reduced-below : (ρ : ℕ) → 0 < ρ → (counters : List ℕ) (i : ℕ) → i < length counters → getD (reducedBytes ρ counters) i 0 < ρ
+reduced-below ρ some counters i h = rw (getD-tabulate (length counters) (reducedByte ρ counters) i 0 h) (mod-lt (getD counters i 0) some)
+
+-- a digit that is not above those skipped is the lowest of the others
+lowest-at : (z d : ℕ) → z ≤ d → leb d z ≡ eqb d z
+lowest-at z d h = go (eqb d z) refl
+  where
+    go : (b : Bool) → eqb d z ≡ b → leb d z ≡ b
+    go true e = le-leb d z (omega (arith, eqb-true d z e))
+    go false e = lt-leb d z (lt-of-le-ne h (λ same. eqb-false d z e (sym same)))
+
+module _ (s : Shape) (e : Entry) (test : e .opens ≡ false) (mem : Memory) (sized : Sized s mem) where
+  -- the counters after the lookup
+  abbrev countersAfter : List ℕ
+  countersAfter = countedRows s e (mem .counters) (entryMatches s e mem)
 
   counters-length : length countersAfter ≡ s .rows
   unfolding countedRows
   counters-length = length-tabulate (s .rows) _
 
-  pub counters-kept : e .resets ≡ false → countersAfter ≡ lookedUp s e mem .counters
-  unfolding lookedUp resetRows reset
-  counters-kept r =
-      sym (tabulate-list (s .rows) countersAfter counters-length)
-      ∙ ap (λ resets. tabulate (s .rows) (λ i. cond resets 0 (getD countersAfter i 0))) (sym r)
+  counters-made : {matches : List ℕ} → matches ≡ entryMatches s e mem → countedBytes (s .radix) (mem .counters) matches ≡ countersAfter
+  unfolding countedRows counted
+  counters-made looked = rw (sized .rows .counters, looked, test)
 
-  pub counters-reset :
-      e .resets ≡ true → {counters zeros : List ℕ} → counters ≡ countersAfter → zeros ≡ replicate (length counters) 0 → zeros ≡ lookedUp s e mem .counters
+  -- they return to 0, or stay
+  counters-left :
+      {counters left : List ℕ} → counters ≡ countersAfter → left ≡ cond (e .resets) (replicate (length counters) 0) counters
+      → left ≡ lookedUp s e mem .counters
   unfolding lookedUp resetRows reset
-  counters-reset r made zero = zero ∙ rw (made, counters-length, r) (sym (tabulate-constant (s .rows) 0))
+  counters-left made l = l ∙ rw (made, counters-length) (go (e .resets))
+    where
+      go : (b : Bool) → cond b (replicate (s .rows) 0) countersAfter ≡ tabulate (s .rows) (λ i. cond b 0 (getD countersAfter i 0))
+      go true = sym (tabulate-constant (s .rows) 0)
+      go false = sym (tabulate-list (s .rows) countersAfter counters-length)
 
+  -- rows whose counters aren't 0 are flagged, or no row
+  flags-left :
+      {counters left : List ℕ} → counters ≡ countersAfter → left ≡ cond (e .flags) (overwrittenBytes counters 1 (mem .flags)) (mem .flags)
+      → left ≡ lookedUp s e mem .flags
+  unfolding lookedUp flaggedRows flagged
+  flags-left made l = l ∙ rw (made, sized .rows .flags) (go (e .flags) (e .opens) test)
+    where
+      go :
+          (b opens : Bool) → opens ≡ false
+          → cond b (tabulate (s .rows) (λ i. cond (eqb (getD countersAfter i 0) 0) (getD (mem .flags) i 0) 1)) (mem .flags)
+          ≡ tabulate (s .rows)
+          (λ i. cond (b && cond opens (eqb (getD (entryMatches s e mem) i 0) 0) (not (eqb (getD countersAfter i 0) 0))) 1 (getD (mem .flags) i 0))
+      go b true never = absurd (false≢true (sym never))
+      go true false opens = tabulate-same (s .rows) _ _ (λ i h. cond-not (eqb (getD countersAfter i 0) 0) (getD (mem .flags) i 0) 1)
+      go false false opens = sym (tabulate-list (s .rows) (mem .flags) (sized .rows .flags))
+
+  -- what is left in all
+  all-left :
+      {matches counters left flags totals : List ℕ} → matches ≡ entryMatches s e mem → counters ≡ countedBytes (s .radix) (mem .counters) matches
+      → left ≡ cond (e .resets) (replicate (length counters) 0) counters
+      → flags ≡ cond (e .flags) (overwrittenBytes counters 1 (mem .flags)) (mem .flags)
+      → totals ≡ cond (e .flags) (blockTotals flags) (mem .totals)
+      → lookedUp s e mem ≡ withRows left flags totals mem
+  unfolding lookedUp totalledBlocks
+  all-left looked counted l f t =
+      let made = counted ∙ counters-made looked in
+      let flagged = flags-left made f in
+      let totalled = t ∙ ap (λ flags. cond (e .flags) (blockTotals flags) (mem .totals)) flagged in
+      sym (λ i. withRows (counters-left made l i) (flagged i) (totalled i) mem)
+
+-- .. of a test at its place, by whether it ends its digit
+pub test-made :
+    (z : ℕ) (s : Shape) (p : Place) → z ≤ p .digit → (ends : Bool) → ends ≡ testOf z s p .flags → (mem : Memory) → Sized s mem
+    → {matches counters left flags totals : List ℕ} → matches ≡ entryMatches s (testOf z s p) mem
+    → counters ≡ countedBytes (s .radix) (mem .counters) matches
+    → left ≡ cond (ends && leb (p .digit) z) (replicate (length counters) 0) counters
+    → flags ≡ cond ends (overwrittenBytes counters 1 (mem .flags)) (mem .flags)
+    → totals ≡ cond ends (blockTotals flags) (mem .totals)
+    → lookedUp s (testOf z s p) mem ≡ withRows left flags totals mem
+test-made z s p unskipped ends e mem sized {matches} {counters} {left} {flags} looked counted l f t =
+    let lowest : ends && leb (p .digit) z ≡ testOf z s p .resets = ap₂ _&&_ e (lowest-at z (p .digit) unskipped) in
+    all-left s (testOf z s p) refl mem sized looked counted (l ∙ ap (λ b. cond b (replicate (length counters) 0) counters) lowest)
+    (f ∙ ap (λ b. cond b (overwrittenBytes counters 1 (mem .flags)) (mem .flags)) e) (t ∙ ap (λ b. cond b (blockTotals flags) (mem .totals)) e)
+
+-- a test counts any bytes by their remainders
+pub look-reduced :
+    (s : Shape) (e : Entry) → e .opens ≡ false → (mem : Memory) → length (mem .counters) ≡ s .rows
+    → lookedUp s e (withCounters (reducedBytes (s .radix) (mem .counters)) mem) ≡ lookedUp s e mem
+unfolding lookedUp countedRows counted entryMatches
+look-reduced s e test mem sized =
+    let matches : List ℕ = entryMatches s e mem in
+    let left : List ℕ → Memory = λ counters.
+    let flags = flaggedRows s e matches counters (mem .flags) in
+    withRows (resetRows s e counters) flags (totalledBlocks e flags (mem .totals)) mem in
+    ap left
+    (tabulate-same (s .rows) _ _ λ i h.
+    go (e .opens) (getD matches i 0) (getD (mem .counters) i 0) test (getD-tabulate (length (mem .counters)) (reducedByte (s .radix) (mem .counters)) i 0 (omega arith)))
+  where
+    go :
+        (opens : Bool) (byte counter : ℕ) → opens ≡ false → {own : ℕ} → own ≡ counter % s .radix
+        → cond opens own ((own + byte) % s .radix) ≡ cond opens counter ((counter + byte) % s .radix)
+    go true byte counter never e = absurd (false≢true (sym never))
+    go false byte counter test e = ap (λ own. (own + byte) % s .radix) e ∙ mod-add-mod counter (s .radix) byte
+
+-- the counters that a test leaves are below ρ
+pub test-below :
+    (s : Shape) (e : Entry) → e .opens ≡ false → 0 < s .radix → (mem : Memory) (i : ℕ) → i < s .rows → getD (lookedUp s e mem .counters) i 0 < s .radix
+unfolding lookedUp resetRows reset countedRows counted
+test-below s e test some mem i h =
+    let sum : ℕ → ℕ = λ i. getD (mem .counters) i 0 + getD (entryMatches s e mem) i 0 in
+    let added : ℕ → ℕ = λ i. cond (e .opens) (getD (mem .counters) i 0) (sum i % s .radix) in
+    let kept : ℕ → ℕ = λ i. cond (e .resets) 0 (getD (tabulate (s .rows) added) i 0) in
+    let here = getD-tabulate (s .rows) kept i 0 h ∙ ap (cond (e .resets) 0) (getD-tabulate (s .rows) added i 0 h) in
+    rw here (go (e .opens) (e .resets) (sum i) test)
+  where
+    go : (opens resets : Bool) (sum : ℕ) → opens ≡ false → cond resets 0 (cond opens (getD (mem .counters) i 0) (sum % s .radix)) < s .radix
+    go true resets sum never = absurd (false≢true (sym never))
+    go false true sum test = some
+    go false false sum test = mod-lt sum some
+
+-- ---- flags and totals: left where no row is flagged, and else the totals are those of the flags
+module _ (s : Shape) (e : Entry) (mem : Memory) where
   pub flags-kept : e .flags ≡ false → length (mem .flags) ≡ s .rows → mem .flags ≡ lookedUp s e mem .flags
   unfolding lookedUp flaggedRows flagged
   flags-kept f sized = rw f (sym (tabulate-list (s .rows) (mem .flags) sized))
 
-  pub flags-set :
-      e .opens ≡ false → e .flags ≡ true → length (mem .flags) ≡ s .rows → {counters flags : List ℕ} → counters ≡ countersAfter
-      → flags ≡ tabulate (length (mem .flags)) (λ i. cond (eqb (getD counters i 0) 0) (getD (mem .flags) i 0) 1)
-      → flags ≡ lookedUp s e mem .flags
-  unfolding lookedUp flaggedRows flagged
-  flags-set test f sized made set =
-      set
-      ∙ rw (sized, made)
-      (tabulate-same (s .rows) _ _ (λ i h.
-      let counter : ℕ = getD countersAfter i 0 in
-      let match : ℕ = getD (entryMatches s e mem) i 0 in
-      cond-not (eqb counter 0) (getD (mem .flags) i 0) 1
-      ∙ ap₂ (λ flags opens. cond (flags && cond opens (eqb match 0) (not (eqb counter 0))) 1 (getD (mem .flags) i 0)) (sym f) (sym test)))
-
-  -- the totals are left, or they are those of the flags
   pub totals-kept : e .flags ≡ false → mem .totals ≡ lookedUp s e mem .totals
   unfolding lookedUp totalledBlocks
   totals-kept f = rw f refl

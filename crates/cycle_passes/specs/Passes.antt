@@ -6,14 +6,28 @@ use Prim.Native.Nat.{ℕ, _+_, _*_, _%_, _≤_, _<_}
 use lib.Dec.{eqb}
 use lib.ListN.{length, getD}
 use Rattle.parity.specs.Lists.{tabulate}
-use Rattle.parity.specs.Match.{answers}
+use Rattle.acam.specs.Cell.{cellMatch}
 
--- the match bytes of m rows of n cells, for input x in column j alone
-abbrev pub columnMatch : ℕ → ℕ → ℕ → List ℕ → ℕ → ℕ
-columnMatch n j x cells = λ i. cond (answers x (getD cells (i * n + j) 0)) 1 0
+-- the cells of column j of m rows of n cells
+abbrev pub columnCell : ℕ → ℕ → List ℕ → ℕ → ℕ
+columnCell n j cells = λ i. getD cells (i * n + j) 0
 
-abbrev pub columnMatches : ℕ → ℕ → ℕ → List ℕ → ℕ → List ℕ
-columnMatches n j x cells m = tabulate m (columnMatch n j x cells)
+abbrev pub columnCells : ℕ → ℕ → List ℕ → ℕ → List ℕ
+columnCells n j cells m = tabulate m (columnCell n j cells)
+
+-- the rows' match bytes for input x in one column alone, by its cells
+abbrev pub columnMatch : ℕ → List ℕ → List ℕ → ℕ → ℕ
+columnMatch x lines column = λ i. cellMatch (getD lines i 0) x (getD column i 0)
+
+abbrev pub columnMatches : ℕ → List ℕ → List ℕ → List ℕ
+columnMatches x lines column = tabulate (length column) (columnMatch x lines column)
+
+-- the counters' remainders
+abbrev pub reducedByte : ℕ → List ℕ → ℕ → ℕ
+reducedByte ρ counters = λ i. getD counters i 0 % ρ
+
+abbrev pub reducedBytes : ℕ → List ℕ → List ℕ
+reducedBytes ρ counters = tabulate (length counters) (reducedByte ρ counters)
 
 -- the counters with the match bytes added, mod ρ
 abbrev pub countedByte : ℕ → List ℕ → List ℕ → ℕ → ℕ
@@ -36,10 +50,8 @@ pub record ColumnLent (cellCount n j m : ℕ) : Type 0 where
   pub column : j < n
   pub cells : m * n ≤ cellCount
 
--- rows to count in: as many match bytes and lines as counters, each match byte 0 or 1, and a ρ that is a byte and not 0
-pub record ToCount (counterBytes lineBytes matchBytes : List ℕ) (ρ : ℕ) : Type 0 where
-  pub matches : length matchBytes ≡ length counterBytes
+-- rows to count in: as many lines and cells as counters, and each counter below ρ
+pub record ToCount (counterBytes lineBytes : List ℕ) (cellCount ρ : ℕ) : Type 0 where
   pub lines : length lineBytes ≡ length counterBytes
-  pub bytes : (i : ℕ) → i < length counterBytes → getD matchBytes i 0 ≤ 1
-  pub low : 0 < ρ
-  pub high : ρ ≤ 255
+  pub cells : cellCount ≡ length counterBytes
+  pub below : (i : ℕ) → i < length counterBytes → getD counterBytes i 0 < ρ

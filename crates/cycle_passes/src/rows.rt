@@ -1,79 +1,107 @@
 // The passes of a step over the rows.
-use acam::compare::answers;
+use acam::compare::cell_match;
 use shape::byte::fill;
 use shape::byte::largest;
 use shape::byte::wide;
 ghost use mathlib.Core.Path.{_≡_};
-ghost use Prim.Native.Nat.{ℕ, _≤_, _<_};
-ghost use lib.ListN.{length, getD, replicate};
+ghost use Prim.Native.Nat.{_+_, _%_, _≤_, _<_};
+ghost use lib.ListN.{length, replicate};
 ghost use Rattle.shape.specs.Bounds.{Within};
 ghost use Rattle.shape.specs.Lent.{was, left};
-ghost use Rattle.cycle_passes.specs.Passes.{columnMatches, countedBytes, overwrittenBytes, ColumnLent, ToCount};
+ghost use Rattle.cycle_passes.specs.Passes.{columnCells, reducedBytes, columnMatches, countedBytes, overwrittenBytes, ColumnLent, ToCount};
 
-// The match byte of every row for the vector with the input in one column and 0 elsewhere, if all lines are sound: that
-// column alone can say no.
-pub fn match_column(cells: &[u8], columns: usize, column: usize, input: u8, matches: &mut [u8])
-    requires { ⌜ ColumnLent (length (now cells)) columns column (length (now matches)) ⌝ }
-    ensures { λ _. ⌜ left matches ≡ columnMatches columns column input (was cells) (length (was matches)) ⌝ }
+// The cells of one column, row after row.
+pub fn take_column(cells: &[u8], columns: usize, column: usize, bytes: &mut [u8])
+    requires { ⌜ ColumnLent (length (now cells)) columns column (length (now bytes)) ⌝ }
+    ensures { λ _. ⌜ left bytes ≡ columnCells columns column (was cells) (length (was bytes)) ⌝ }
 {
     let mut at = column;
     let mut i: usize = 0;
-    while i < matches.len() {
-        if answers(input, cells[at]) {
-            matches[i] = 1;
-        } else {
-            matches[i] = 0;
-        }
+    while i < bytes.len() {
+        bytes[i] = cells[at];
         at += columns;
         i += 1;
     }
 }
 
-// Counters below ρ, as accepted steps leave them, need no remainder. The match bytes of dead lines become 0 in the same pass,
-// and each byte is chosen before its one store, so that the loop is compiled to vector code.
-fn count_below(counters: &mut [u8], lines: &[u8], matches: &mut [u8], radix: u8)
-    requires { ⌜ ToCount (now counters) (now lines) (now matches) radix ⌝ }
-    requires { ⌜ ((i : ℕ) → i < length (now counters) → getD (now counters) i 0 < radix) ⌝ }
-    ensures muted { λ _. ⌜ left matches ≡ overwrittenBytes (was lines) 0 (was matches) ⌝ }
-    ensures counted { λ _. ⌜ left counters ≡ countedBytes radix (was counters) (left matches) ⌝ }
+// The same, where the bytes are those of the column that is held: nothing is to be done if it is this one.
+pub fn hold_column(cells: &[u8], columns: usize, column: usize, held: usize, bytes: &mut [u8])
+    requires { ⌜ ColumnLent (length (now cells)) columns column (length (now bytes)) ⌝ }
+    requires { ⌜ (column ≡ held → now bytes ≡ columnCells columns column (now cells) (length (now bytes))) ⌝ }
+    ensures { λ _. ⌜ left bytes ≡ columnCells columns column (was cells) (length (was bytes)) ⌝ }
 {
-    let mut i: usize = 0;
-    while i < counters.len() {
-        let seen = matches[i];
-        let byte = if lines[i] == 0 { seen } else { 0 };
-        matches[i] = byte;
-        let sum = counters[i] + byte;
-        let count = if sum == radix { 0 } else { sum };
-        counters[i] = count;
-        i += 1;
-    }
-}
-
-// Any bytes count by their remainders.
-fn count_any(counters: &mut [u8], matches: &[u8], radix: usize)
-    requires { ⌜ length (now matches) ≡ length (now counters) ⌝ }
-    requires { ⌜ Within 1 radix 255 ⌝ }
-    ensures { λ _. ⌜ left counters ≡ countedBytes radix (was counters) (was matches) ⌝ }
-{
-    let mut i: usize = 0;
-    while i < counters.len() {
-        counters[i] = ((wide(counters[i]) + wide(matches[i])) % radix) as u8;
-        i += 1;
-    }
-}
-
-// Makes the match bytes of dead lines 0, and adds each match byte to its row's counter mod ρ.
-pub fn count_rows(counters: &mut [u8], lines: &[u8], matches: &mut [u8], radix: usize)
-    requires { ⌜ ToCount (now counters) (now lines) (now matches) radix ⌝ }
-    ensures muted { λ _. ⌜ left matches ≡ overwrittenBytes (was lines) 0 (was matches) ⌝ }
-    ensures counted { λ _. ⌜ left counters ≡ countedBytes radix (was counters) (left matches) ⌝ }
-{
-    if wide(largest(counters)) < radix {
-        count_below(counters, lines, matches, radix as u8);
+    if column == held {
         return;
     }
-    overwrite(lines, matches, 0);
-    count_any(counters, matches, radix);
+    take_column(cells, columns, column, bytes);
+}
+
+// Any bytes count by their remainders. Counters below ρ, as accepted steps leave them, are their own.
+pub fn reduce_rows(counters: &mut [u8], radix: usize)
+    requires { ⌜ Within 1 radix 255 ⌝ }
+    ensures { λ _. ⌜ left counters ≡ reducedBytes radix (was counters) ⌝ }
+{
+    if wide(largest(counters)) < radix {
+        return;
+    }
+    let mut i: usize = 0;
+    while i < counters.len() {
+        counters[i] = (wide(counters[i]) % radix) as u8;
+        i += 1;
+    }
+}
+
+// A counter below ρ with a match byte added, mod ρ: no remainder has to be taken.
+fn add_match(counter: u8, byte: u8, radix: u8) -> u8
+    requires { ⌜ counter < radix ⌝ }
+    requires { ⌜ byte ≤ 1 ⌝ }
+    ensures { λ r. ⌜ r ≡ (counter + byte) % radix ⌝ }
+{
+    let sum = counter + byte;
+    if sum == radix { 0 } else { sum }
+}
+
+// The match byte of each row, in the place of its cell in the one column that is fed, and added to the row's counter. In this
+// loop and the next each byte is chosen before its one store, so that they are compiled to vector code.
+pub fn count_matches(counters: &mut [u8], lines: &[u8], matches: &mut [u8], input: u8, radix: u8)
+    requires { ⌜ ToCount (now counters) (now lines) (length (now matches)) radix ⌝ }
+    ensures matched { λ _. ⌜ left matches ≡ columnMatches input (was lines) (was matches) ⌝ }
+    ensures counted { λ _. ⌜ left counters ≡ countedBytes radix (was counters) (left matches) ⌝ }
+{
+    let mut i: usize = 0;
+    while i < counters.len() {
+        let byte = cell_match(lines[i], input, matches[i]);
+        matches[i] = byte;
+        counters[i] = add_match(counters[i], byte, radix);
+        i += 1;
+    }
+}
+
+// The same by a column's cells that are kept, since the match bytes of this test are not asked for.
+pub fn count_column(counters: &mut [u8], lines: &[u8], column: &[u8], input: u8, radix: u8)
+    requires { ⌜ ToCount (now counters) (now lines) (length (now column)) radix ⌝ }
+    ensures { λ _. ⌜ left counters ≡ countedBytes radix (was counters) (columnMatches input (was lines) (was column)) ⌝ }
+{
+    let mut i: usize = 0;
+    while i < counters.len() {
+        let byte = cell_match(lines[i], input, column[i]);
+        counters[i] = add_match(counters[i], byte, radix);
+        i += 1;
+    }
+}
+
+// The match bytes alone, each in the place of its cell.
+pub fn match_column(lines: &[u8], matches: &mut [u8], input: u8)
+    requires { ⌜ length (now lines) ≡ length (now matches) ⌝ }
+    ensures { λ _. ⌜ left matches ≡ columnMatches input (was lines) (was matches) ⌝ }
+{
+    let mut i: usize = 0;
+    while i < matches.len() {
+        let cell = matches[i];
+        let said = cell_match(lines[i], input, cell);
+        matches[i] = said;
+        i += 1;
+    }
 }
 
 // Writes a byte in each row whose sign isn't 0, and leaves the other rows as they are: so 0 goes to the match bytes of dead

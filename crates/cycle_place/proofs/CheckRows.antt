@@ -7,7 +7,7 @@ use native.Mathlib.Numerals.{add-one}
 use native.Mathlib.Omega.{arith}
 use lib.Bits.{bitAnd, and-high}
 use lib.Dec.{eqb}
-use lib.ListN.{length, getD, take}
+use lib.ListN.{length, getD, take, drop, take-append-drop}
 use lib.Pow.{pow-pos, pow-add}
 use lib.Seq.{take-suc, take-all}
 use borrow.Author.Tests.{eqb-true, eqb-false, eq-eqb, ne-eqb}
@@ -77,6 +77,16 @@ before-next cs ℓ j h =
 pub before-all : (cs : List ℕ) (ℓ j : ℕ) → length cs ≤ j → onesBefore cs ℓ j ≡ length (placesFrom 0 ℓ cs)
 before-all cs ℓ j h = ap (λ ds. length (placesFrom 0 ℓ ds)) (take-all j cs h)
 
+-- no more of them than in all
+pub before-high : (cs : List ℕ) (ℓ j : ℕ) → onesBefore cs ℓ j ≤ length (placesFrom 0 ℓ cs)
+before-high cs ℓ j =
+    omega (
+      arith,
+      places-length 0 ℓ (take j cs),
+      places-length 0 ℓ cs ∙ ap (λ ds. sumOver ds (bit ℓ)) (sym (take-append-drop j cs)),
+      sum-append (bit ℓ) (take j cs) (drop j cs),
+    )
+
 -- ---- the search
 
 -- whether column j has a one in check row ℓ
@@ -119,3 +129,21 @@ held-found cs ℓ (suc n) i e h = go (eqb (bit ℓ (getD cs i 0)) 1) refl (held-
         let same : onesBefore cs ℓ (suc i) ≡ onesBefore cs ℓ i = omega (arith, before-next cs ℓ i lt, bit-zero ℓ (getD cs i 0) none) in
         let found = rest (omega arith) in
         rw (held-later cs ℓ i lt none, add-one) (record { column = found .column; one = found .one; before = found .before ∙ same })
+
+-- .. and only there
+pub held-some :
+    (cs : List ℕ) (ℓ n i : ℕ) → i + n ≡ length cs → heldFrom cs ℓ i < length cs → onesBefore cs ℓ i < length (placesFrom 0 ℓ cs)
+held-some cs ℓ zero i e h = absurd (omega (arith, held-none cs ℓ i (omega arith)))
+held-some cs ℓ (suc n) i e h = go (eqb (bit ℓ (getD cs i 0)) 1) refl (held-some cs ℓ n (suc i) (omega arith))
+  where
+    lt : i < length cs
+    lt = omega arith
+
+    go :
+        (t : Bool) → eqb (bit ℓ (getD cs i 0)) 1 ≡ t
+        → (heldFrom cs ℓ (suc i) < length cs → onesBefore cs ℓ (suc i) < length (placesFrom 0 ℓ cs)) → onesBefore cs ℓ i < length (placesFrom 0 ℓ cs)
+    go true q rest = omega (arith, before-next cs ℓ i lt, eqb-true (bit ℓ (getD cs i 0)) 1 q, before-high cs ℓ (suc i))
+    go false q rest =
+        let none = eqb-false (bit ℓ (getD cs i 0)) 1 q in
+        let same : heldFrom cs ℓ i ≡ heldFrom cs ℓ (suc i) = held-later cs ℓ i lt none ∙ ap (heldFrom cs ℓ) (add-one i) in
+        omega (arith, before-next cs ℓ i lt, bit-zero ℓ (getD cs i 0) none, rest (omega (arith, same, h)))

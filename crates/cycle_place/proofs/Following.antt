@@ -1,30 +1,32 @@
 -- The place after that of a test: the next factor in its column, else the next column of J(ℓ), else the first of the next lower digit
 -- that is not skipped, else the first of the next check row, else the end. Assumes nothing.
 use mathlib.Core.Path.{_≡_, refl, sym, ap, _∙_}
+use mathlib.Core.Bool.{Bool, true, false, _&&_, and-false}
 use Prim.Native.Nat.{ℕ, suc, _+_, _-_, _*_, _≤_, _<_}
 use native.Mathlib.Nat.{zero-div, mod-eq-of-lt}
 use native.Mathlib.Omega.{arith}
+use lib.Dec.{eqb, ltb}
 use lib.ListN.{length}
-use borrow.Author.Tests.{eqb-true, eq-eqb}
+use borrow.Author.Tests.{eqb-true, ltb-true, ltb-false, eq-eqb, ne-eqb}
 use Rattle.parity.specs.Lists.{sumTo}
 use Rattle.parity.specs.Shape.{checks, columns}
-use Rattle.parity.specs.Matrix.{matrix, support, matrixOnes, lookups}
+use Rattle.parity.specs.Matrix.{matrix, placesFrom, support, matrixOnes, lookups}
 use Rattle.parity.specs.Questions.{Taken}
 use Rattle.parity.specs.declared.Shape.{Shape}
 use Rattle.parity.proofs.Taken.{limits}
 use Rattle.parity.proofs.Redundancy.{redundancyClaim}
 use Rattle.parity.proofs.MatrixFacts.{matrixClaim}
 use Rattle.schedule.specs.Schedule.{factors}
-use Rattle.schedule.specs.Index.{IsPlace, supportSize, rank, span, placeIndex}
+use Rattle.schedule.specs.Index.{IsPlace, supportSize, rank, span, placeIndex, endsAt}
 use Rattle.schedule.proofs.Support.{support-some}
 use Rattle.schedule.proofs.Ranks.{factorRank, Factor, stands-support, factor-last, span-step}
 use Rattle.cycle_place.specs.Places.{placeAt, nextAt}
 use Rattle.cycle_place.specs.Walk.{Stands, indexOf}
 use Rattle.cycle_place.specs.declared.Place.{Place}
 use Rattle.cycle_place.specs.declared.walk.Next.the-variants as nexts
-use Rattle.cycle_place.proofs.CheckRows.{before-next, heldFrom, Held, held-found}
+use Rattle.cycle_place.proofs.CheckRows.{onesBefore, before-next, heldFrom, Held, held-found, held-some}
 use Rattle.cycle_place.proofs.Spans.{span-times, span-end, span-less}
-use Rattle.cycle_place.proofs.NextFactor.{nextFactor, next-undivided, next-rank, next-last}
+use Rattle.cycle_place.proofs.NextFactor.{nextFactor, next-undivided, next-rank, next-low, next-last}
 use Rattle.cycle_place.proofs.Places.{AtPlace, place-next, place-end}
 
 -- how many tests stand before those of check row ℓ, and before those of digit d in the column of rank r there
@@ -125,19 +127,72 @@ module _ (z : ℕ) (s : Shape) (t : Taken s) (p : Place) (place : Stands z s p) 
   column-after =
       omega (arith, before-next (matrix s) (p .check) (p .column) (omega (arith, matrixClaim s t .sized, place .column)), place .held)
 
+  -- whether the search finds a column more in J(ℓ)
+  pub more-columns :
+      heldFrom (matrix s) (p .check) (suc (p .column)) < length (matrix s) → suc (rank s (p .check) (p .column)) < supportSize s (p .check)
+  unfolding rank supportSize support
+  more-columns found =
+      omega (
+        arith,
+        held-some (matrix s) (p .check) (length (matrix s) - suc (p .column)) (suc (p .column))
+            (omega (arith, matrixClaim s t .sized, place .column)) found,
+        column-after,
+      )
+
+  pub no-column :
+      length (matrix s) ≤ heldFrom (matrix s) (p .check) (suc (p .column)) → supportSize s (p .check) ≤ suc (rank s (p .check) (p .column))
+  unfolding rank supportSize support
+  no-column missed = go (ltb (onesBefore (matrix s) (p .check) (suc (p .column))) (length (placesFrom 0 (p .check) (matrix s)))) refl
+    where
+      go :
+          (b : Bool) → ltb (onesBefore (matrix s) (p .check) (suc (p .column))) (length (placesFrom 0 (p .check) (matrix s))) ≡ b
+          → length (placesFrom 0 (p .check) (matrix s)) ≤ suc (onesBefore (matrix s) (p .check) (p .column))
+      go true e =
+          let ones : ℕ = onesBefore (matrix s) (p .check) (suc (p .column)) in
+          let all : ℕ = length (placesFrom 0 (p .check) (matrix s)) in
+          let held = held-found (matrix s) (p .check) (length (matrix s) - suc (p .column)) (suc (p .column))
+          (omega (arith, matrixClaim s t .sized, place .column)) (ltb-true ones all e) in
+          absurd (omega (arith, held .column))
+      go false e =
+          omega (
+            arith,
+            ltb-false (onesBefore (matrix s) (p .check) (suc (p .column))) (length (placesFrom 0 (p .check) (matrix s))) e,
+            column-after,
+          )
+
+  -- ---- whether the test is the last of its digit
+
+  abbrev ends : Bool
+  ends = endsAt s (p .check) (p .digit) (p .column) (p .factor)
+
+  pub factor-more : nextFactor (s .radix) (p .factor) < span s (p .digit) → ends ≡ false
+  unfolding endsAt
+  factor-more more =
+      ap (λ top. eqb (suc (rank s (p .check) (p .column))) (supportSize s (p .check)) && top)
+      (ne-eqb (suc (p .factor)) (span s (p .digit)) (λ e. omega (arith, next-low (s .radix) (two s t) (p .factor))))
+      ∙ and-false (eqb (suc (rank s (p .check) (p .column))) (supportSize s (p .check)))
+
+  pub column-more : suc (rank s (p .check) (p .column)) < supportSize s (p .check) → ends ≡ false
+  unfolding endsAt
+  column-more more = rw (ne-eqb (suc (rank s (p .check) (p .column))) (supportSize s (p .check)) (λ e. omega arith)) refl
+
+  -- ---- no factor more in the column
+
   module _ (past : span s (p .digit) ≤ nextFactor (s .radix) (p .factor)) where
+    factor-top : suc (p .factor) ≡ span s (p .digit)
+    factor-top =
+        let k : ℕ = span s (suc (p .digit)) in
+        let whole : span s (p .digit) ≡ k * s .radix = span-times s t (p .digit) (place .digit) in
+        next-last (s .radix) (two s t) (p .factor) k (omega (arith, place .high)) (omega arith) ∙ sym whole
+
     column-done : count ≡ suc (columnStart z s (p .check) (p .digit) (suc (rank s (p .check) (p .column))))
     unfolding placeIndex
     column-done =
         let d : ℕ = p .digit in
-        let k : ℕ = span s (suc d) in
         let a : ℕ = p .factor in
-        let whole : span s d ≡ k * s .radix = span-times s t d (place .digit) in
-        let top : suc a ≡ span s d =
-        next-last (s .radix) (two s t) a k (omega (arith, place .high)) (omega arith) ∙ sym whole in
         let factor : Factor s d a = record { low = place .low; high = place .high; undivided = place .undivided } in
         let all : suc (factorRank (s .radix) a) ≡ length (factors s d) =
-        eqb-true _ _ (factor-last s (two s t) d (place .digit) a factor ∙ eq-eqb (suc a) (span s d) top) in
+        eqb-true _ _ (factor-last s (two s t) d (place .digit) a factor ∙ eq-eqb (suc a) (span s d) factor-top) in
         omega (arith, span-step s (two s t) d (place .digit))
 
     pub follow-column :
@@ -150,12 +205,20 @@ module _ (z : ℕ) (s : Shape) (t : Taken s) (p : Place) (place : Stands z s p) 
         (column-done ∙ ap (λ r. suc (columnStart z s (p .check) (p .digit) r)) (sym column-after)))
 
     module _ (last : supportSize s (p .check) ≤ suc (rank s (p .check) (p .column))) where
-      digit-done : count ≡ suc (columnStart z s (p .check) (p .digit) (supportSize s (p .check)))
+      column-last : suc (rank s (p .check) (p .column)) ≡ supportSize s (p .check)
       unfolding supportSize
-      digit-done =
-          let all : suc (rank s (p .check) (p .column)) ≡ supportSize s (p .check) =
-          omega (arith, stands-support s t (p .check) (p .column) (place .column) (place .held) .0) in
-          column-done ∙ ap (λ r. suc (columnStart z s (p .check) (p .digit) r)) all
+      column-last = omega (arith, stands-support s t (p .check) (p .column) (place .column) (place .held) .0)
+
+      digit-done : count ≡ suc (columnStart z s (p .check) (p .digit) (supportSize s (p .check)))
+      digit-done = column-done ∙ ap (λ r. suc (columnStart z s (p .check) (p .digit) r)) column-last
+
+      pub digit-ends : ends ≡ true
+      unfolding endsAt
+      digit-ends =
+          simp (
+            eq-eqb (suc (rank s (p .check) (p .column))) (supportSize s (p .check)) column-last,
+            eq-eqb (suc (p .factor)) (span s (p .digit)) factor-top,
+          )
 
       pub follow-digit :
           z < p .digit

@@ -56,6 +56,13 @@ module _ (ρ : ℕ) (two : 2 ≤ ρ) where
           ∙ ap suc (sym (rank-count (suc t) t refl))
       go false e = rank-count (suc t + 1) (suc t) (omega arith) ∙ count-more t h ∙ ap suc (sym (rank-count (suc t) t refl))
 
+  pub next-low : (a : ℕ) → a < nextFactor ρ a
+  next-low a = go (eqb ((a + 1) % ρ) 0)
+    where
+      go : (b : Bool) → a < cond b (a + 2) (a + 1)
+      go true = omega arith
+      go false = omega arith
+
   next-high : (a : ℕ) → nextFactor ρ a ≤ a + 2
   next-high a = go (eqb ((a + 1) % ρ) 0)
     where

@@ -1,7 +1,7 @@
 -- The spans q / ρ^d of the digits: each ρ times the next, and 1 past the last digit. Assumes nothing.
 use mathlib.Core.Path.{_≡_, sym, ap, _∙_}
 use Prim.Native.Nat.{ℕ, suc, _+_, _-_, _*_, _/_, _^_, _≤_, _<_}
-use native.Mathlib.Nat.{div-self, mul-div-cancel, div-le-self, one-le-pow}
+use native.Mathlib.Nat.{mul-le-mul-right, div-self, mul-div-cancel, div-le-self, one-le-pow}
 use native.Mathlib.Omega.{arith}
 use lib.Pow.{pow-add}
 use Rattle.parity.specs.Shape.{levels}
@@ -18,7 +18,7 @@ module _ (s : Shape) (t : Taken s) where
   two = limits s t .radixLow
 
   -- a span is a power of ρ
-  span-as : (d : ℕ) → d ≤ s .digits → span s d ≡ s .radix ^ (s .digits - d)
+  pub span-as : (d : ℕ) → d ≤ s .digits → span s d ≡ s .radix ^ (s .digits - d)
   unfolding span levels
   span-as d le =
       let ρ = s .radix in
@@ -34,6 +34,16 @@ module _ (s : Shape) (t : Taken s) where
   pub span-high : (d : ℕ) → span s d ≤ 256
   unfolding span
   span-high d = omega (arith, div-le-self (levels s) (s .radix ^ d), limits s t .levelsHigh)
+
+  -- ρ^d is at most q
+  pub unit-high : (d : ℕ) → d ≤ s .digits → s .radix ^ d ≤ 256
+  unfolding levels
+  unit-high d le =
+      let ρ = s .radix in
+      let parts : s .digits ≡ s .digits - d + d = omega arith in
+      let whole : ρ ^ s .digits ≡ ρ ^ (s .digits - d) * ρ ^ d = ap (λ b. ρ ^ b) parts ∙ pow-add ρ (s .digits - d) d in
+      let rest : 1 * ρ ^ d ≤ ρ ^ (s .digits - d) * ρ ^ d = mul-le-mul-right (ρ ^ d) (one-le-pow (s .digits - d) ρ (omega (arith, two))) in
+      omega (arith, whole, rest, limits s t .levelsHigh)
 
   module _ (d : ℕ) (h : d < s .digits) where
     pub span-times : span s d ≡ span s (suc d) * s .radix

@@ -2,16 +2,15 @@
 use mathlib.Core.Path.{_≡_}
 use mathlib.Core.Bool.{cond}
 use mathlib.Core.List.{List}
-use Prim.Native.Nat.{ℕ, zero, suc, _<_}
+use Prim.Native.Nat.{ℕ, zero, suc}
 use Rattle.parity.specs.Shape.{checks as checksOf}
 use Rattle.parity.specs.Matrix.{matrix as matrixOf}
 use Rattle.parity.specs.Questions.{Taken}
 use Rattle.parity.specs.declared.Shape.{Shape}
 use Rattle.schedule.specs.Schedule.{Entry}
-use Rattle.schedule.specs.Index.{IsPlace, supportSize, rank, span, placeIndex, endsAt, entryOf}
+use Rattle.schedule.specs.Index.{IsPlace, span, placeIndex, endsAt, entryOf}
 use Rattle.cycle_place.specs.Places.{nextAt, isPlaceOf}
 use Rattle.cycle_place.specs.declared.Place.{Place}
-use Rattle.cycle_place.specs.declared.walk.Extent.{Extent}
 use Rattle.cycle_place.specs.declared.walk.Sought.{Sought}
 use Rattle.cycle_place.specs.declared.walk.Sought.the-variants as soughts
 use Rattle.cycle_place.specs.declared.walk.Here.{Here}
@@ -30,13 +29,9 @@ indexOf z s p = suc (placeIndex z s (p .check) (p .digit) (p .column) (p .factor
 abbrev pub testOf : ℕ → Shape → Place → Entry
 testOf z s p = entryOf z s (p .check) (p .digit) (p .column) (p .factor)
 
--- q / ρ^s, |J(ℓ)| and the rank of j for a place
-abbrev pub extentAt : Shape → Place → Extent
-extentAt s p = record { span = span s (p .digit); size = supportSize s (p .check); rank = rank s (p .check) (p .column) }
-
--- that is found of a test at the place of the lookup after c others, and nothing elsewhere
+-- a test is found at the place of the lookup after c others, with q / ρ^s, and nothing elsewhere
 abbrev pub soughtAt : ℕ → Shape → ℕ → Place → Sought
-soughtAt z s c p = cond (isPlaceOf z s c p) (soughts.At (extentAt s p)) soughts.Elsewhere
+soughtAt z s c p = cond (isPlaceOf z s c p) (soughts.At (span s (p .digit))) soughts.Elsewhere
 
 -- a test that is next, after c others: whether it is the last of its check row and digit, and the place after it
 abbrev pub hereAt : ℕ → Shape → ℕ → Place → Here
@@ -59,12 +54,7 @@ pub record MatrixLent (s : Shape) (r : ℕ) (columnBytes : List ℕ) : Type 0 wh
   pub checks : r ≡ checksOf s
   pub matrix : columnBytes ≡ matrixOf s
 
--- the place of a test, and where it lies
-pub record TestAt (z : ℕ) (s : Shape) (p : Place) (lies : Extent) : Type 0 where
+-- the place of a test, and q / ρ^s
+pub record TestAt (z : ℕ) (s : Shape) (p : Place) (reach : ℕ) : Type 0 where
   pub stands : Stands z s p
-  pub extent : lies ≡ extentAt s p
-
--- a column of the check row, and a factor of the digit
-pub record Inside (lies : Extent) (a : ℕ) : Type 0 where
-  pub column : lies .rank < lies .size
-  pub factor : a < lies .span
+  pub span : reach ≡ span s (p .digit)

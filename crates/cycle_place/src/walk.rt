@@ -11,24 +11,15 @@ use parity::Shape;
 use shape::byte::power_of_two;
 use shape::byte::wide;
 ghost use mathlib.Core.Path.{_≡_};
-ghost use mathlib.Core.Bool.{_&&_};
-ghost use Prim.Native.Nat.{ℕ, suc, _<_};
-ghost use lib.Dec.{eqb};
+ghost use Prim.Native.Nat.{ℕ, _<_};
 ghost use Rattle.parity.specs.Shape.{checks as checksOf};
 ghost use Rattle.cycle_place.specs.Places.{placeAt, nextAt, samePlace};
 ghost use Rattle.cycle_place.specs.declared.walk.Next.the-variants.{Place as NextPlace};
-ghost use Rattle.cycle_place.specs.Walk.{indexOf, soughtAt, locatedAt, MatrixLent, TestAt, Inside};
+ghost use Rattle.cycle_place.specs.Walk.{indexOf, soughtAt, hereAt, locatedAt, MatrixLent, TestAt};
 
-// Where a test's place lies in its check row and digit: q / ρ^s, |J(ℓ)|, and the columns of J(ℓ) before its own.
-pub(crate) struct Extent {
-    pub(crate) span: usize,
-    pub(crate) size: usize,
-    pub(crate) rank: usize,
-}
-
-// Whether a test is found at a place, and where that lies.
+// Whether a test is found at a place, and q / ρ^s of its digit.
 pub(crate) enum Sought {
-    At(Extent),
+    At(usize),
     Elsewhere,
 }
 
@@ -66,7 +57,7 @@ fn is_zero(place: Place) -> bool
     place.factor == 0
 }
 
-// Whether the test at a place is the lookup that comes after so many others, and where it lies.
+// Whether the test at a place is the lookup that comes after so many others.
 fn locate_test(
     place: Place,
     skip: usize,
@@ -111,11 +102,7 @@ fn locate_test(
     if index_of(levels, radix, factor, next, survey) + 1 != count {
         return Sought::Elsewhere;
     }
-    Sought::At(Extent {
-        span,
-        size: survey.size,
-        rank: survey.rank,
-    })
+    Sought::At(span)
 }
 
 // The place of a cycle's first test, which comes after the opening, whatever digits it skips.
@@ -132,53 +119,62 @@ fn first(shape: Shape, matrix: &[u8]) -> Place
     }
 }
 
-// Whether the test of a factor is the last of its check row and digit.
-fn ends_digit(extent: Extent, factor: usize) -> bool
-    requires { ⌜ Inside extent factor ⌝ }
-    ensures { λ r. ⌜ r ≡ eqb (suc (extent .rank)) (extent .size) && eqb (suc factor) (extent .span) ⌝ }
-{
-    extent.rank + 1 == extent.size && factor + 1 == extent.span
-}
-
-// The place after that of a test.
-fn advance(
+// A test by its place: the next factor comes after it, else the next column of J(ℓ); else it is the last of its digit, and the
+// next lower digit that is not skipped comes, else the next check row, else the end.
+pub fn follow(
     place: Place,
+    span: usize,
     skip: usize,
     shape: Shape,
     checks: usize,
     matrix: &[u8],
-    extent: Extent,
-) -> Next
+) -> Here
     requires { ⌜ MatrixLent shape checks (now matrix) ⌝ }
-    requires { ⌜ TestAt skip shape place extent ⌝ }
-    ensures { λ r. ⌜ r ≡ nextAt skip shape (suc (indexOf skip shape place)) ⌝ }
+    requires { ⌜ TestAt skip shape place span ⌝ }
+    ensures { λ r. ⌜ r ≡ hereAt skip shape (indexOf skip shape place) place ⌝ }
 {
     let mut next = place;
     let check = place.check;
     let digit = place.digit;
     let column = place.column;
     let factor = next_factor(place.factor, shape.radix);
-    if factor < extent.span {
+    if factor < span {
         next.factor = factor;
-        return Next::Place(next);
+        return Here {
+            ends: false,
+            next: Next::Place(next),
+        };
     }
     next.factor = 1;
-    if extent.rank + 1 < extent.size {
-        next.column = next_held(matrix, check, column + 1);
-        return Next::Place(next);
+    let later = next_held(matrix, check, column + 1);
+    if later < matrix.len() {
+        next.column = later;
+        return Here {
+            ends: false,
+            next: Next::Place(next),
+        };
     }
     if skip < digit {
         next.digit = digit - 1;
         next.column = next_held(matrix, check, 0);
-        return Next::Place(next);
+        return Here {
+            ends: true,
+            next: Next::Place(next),
+        };
     }
     if check + 1 < checks {
         next.check = check + 1;
         next.digit = shape.digits - 1;
         next.column = next_held(matrix, check + 1, 0);
-        return Next::Place(next);
+        return Here {
+            ends: true,
+            next: Next::Place(next),
+        };
     }
-    Next::End
+    Here {
+        ends: true,
+        next: Next::End,
+    }
 }
 
 // The first lookup, if its place is the opening's, all 0, in a cycle that does not skip all digits.
@@ -212,10 +208,6 @@ pub fn locate(
     }
     match locate_test(place, skip, count, shape, checks, matrix) {
         Sought::Elsewhere => Located::Elsewhere,
-        Sought::At(extent) => {
-            let ends = ends_digit(extent, place.factor);
-            let next = advance(place, skip, shape, checks, matrix, extent);
-            Located::Test(Here { ends, next })
-        }
+        Sought::At(span) => Located::Test(follow(place, span, skip, shape, checks, matrix)),
     }
 }

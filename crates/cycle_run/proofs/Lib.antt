@@ -1,2 +1,3 @@
--- The laws that the proofs of the functions cite.
-pub mod WholeCycle
+-- The laws that the functions' proofs and the crates above cite.
+pub mod Stepping
+pub mod HeldColumn

@@ -1,3 +1,4 @@
--- A whole cycle as one call.
+-- Many steps, and a whole cycle, as one call.
+pub mod Steps
 pub mod Cycles
-pub mod Starts
+pub mod Tests

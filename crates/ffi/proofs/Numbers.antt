@@ -31,14 +31,17 @@ pub answering-told : {A : Type 0} (nothing : A) (number : ℕ) (value : A) → T
 answering-told nothing zero value = refl
 answering-told nothing (suc number) value = positive number
 
-module _ {S : Type 0} (questions : List Question) (bytes : List ℕ) (state : S) (value : ℕ) (new : List ℕ) (next : S) where
-  pub calling-told : Told (calling questions bytes state (giving (accepted value) new next) .said)
+module _ {S : Type 0} (questions : List Question) (bytes : List ℕ) (state : S) where
+  pub done-told : (done : Result S) → Told (done .said) → Told (calling questions bytes state done .said)
   unfolding calling
-  calling-told = go (firstNo questions)
+  done-told done t = go (firstNo questions)
     where
-      go : (number : ℕ) → Told (ifTaken number (giving (accepted value) new next) (giving (refused 0 number) bytes state) .said)
-      go zero = refl
+      go : (number : ℕ) → Told (ifTaken number done (giving (refused 0 number) bytes state) .said)
+      go zero = t
       go (suc number) = positive number
+
+  pub calling-told : (value : ℕ) (new : List ℕ) (next : S) → Told (calling questions bytes state (giving (accepted value) new next) .said)
+  calling-told value new next = done-told (giving (accepted value) new next) refl
 
 -- ---- so what a call says is what its number and its value tell
 

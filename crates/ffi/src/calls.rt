@@ -1,5 +1,6 @@
 // The calls that have the record. A refused call leaves the words and every buffer as they were.
 use cycle_run::run_cycle;
+use cycle_run::steps::steps;
 use ffi_words::cycle_of;
 use ffi_words::store;
 use parity::Shape;
@@ -11,6 +12,7 @@ ghost use Rattle.array_memory.specs.Buffers.{wasCells, leftCells, wasRows, left
 ghost use Rattle.array_memory.specs.Memory.{Memory};
 ghost use Rattle.cycle.specs.Calls.{clearCall, programCall, commitCall, startCall, stepCall};
 ghost use Rattle.cycle_run.specs.Cycles.{cycleCall};
+ghost use Rattle.cycle_run.specs.Steps.{stepsCall};
 ghost use Rattle.ffi_words.specs.Words.{storedOf, onWords};
 ghost use Rattle.ffi.specs.Numbers.{telling};
 
@@ -106,6 +108,40 @@ pub extern "C" fn jorivelune_step(
     store(
         words,
         cycle.step(shape, cells, lines, counters, flags, totals, matches),
+    )
+}
+
+// Steps: at most so many of the open cycle, one after the other, up to its end. The match bytes are those of the last one.
+#[no_mangle]
+pub extern "C" fn jorivelune_steps(
+    words: &mut [usize; 7],
+    shape: Shape,
+    most: usize,
+    cells: &[u8],
+    lines: &[u8],
+    counters: &mut [u8],
+    flags: &mut [u8],
+    totals: &mut [u8],
+    matches: &mut [u8],
+) -> u8
+    ensures { λ r. ⌜ ((mem : Memory) → onWords (λ st. stepsCall shape st most (was matches))
+        (wasAll cells lines counters flags totals mem) (was words)
+        ≡ giving (telling r 0) (left matches) (storedOf (leftAll cells lines counters flags totals mem) (left words))) ⌝ }
+{
+    let cycle = cycle_of(words);
+    store(
+        words,
+        steps(
+            cycle,
+            shape,
+            most,
+            cells,
+            lines,
+            counters,
+            flags,
+            totals,
+            matches,
+        ),
     )
 }
 

@@ -1,12 +1,18 @@
--- `cycle_run::run_cycle` meets its contract: 15 and then 6 are asked, `start_lent` starts the cycle, and `run_open` makes its steps. Assumes nothing.
+-- `cycle_run::run_cycle` meets its contract: 15 and then 6 are asked, `start_lent` starts the cycle, and `steps_lent` makes its steps: no fewer
+-- than it has. Assumes nothing.
 use mathlib.Core.Path.{_≡_, refl, sym, _∙_, ap, ap₂, subst}
 use mathlib.Core.List.{List, [], _∷_, _++_}
-use Prim.Native.Nat.{_<_}
+use mathlib.Core.Bool.{true}
+use Prim.Native.Nat.{ℕ, _≤_, _<_}
+use native.Mathlib.Omega.{arith}
 use lib.Dec.{lit<}
 use lib.ListN.{length, replicate}
 use borrow.Author.Needs.{needs}
 use Rattle.parity.specs.Matrix.{cycleSteps}
 use Rattle.parity.specs.Questions.{Question, firstNo, shapeQuestions, skipQuestion, lengthsQuestion}
+use Rattle.parity.specs.Claims.{mostSteps}
+use Rattle.parity.proofs.Alongside.{equal-alongside}
+use Rattle.parity.proofs.Longest.{lookups-high}
 use Rattle.parity.proofs.Taken.{first-yes}
 use Rattle.shape.specs.Answers.{accepted, giving}
 use Rattle.shape.specs.Shapes.{checkedSays, sizesIf, sizesIn, Passed}
@@ -19,14 +25,15 @@ use Rattle.array_memory.specs.Memory.{Memory, withArray, withAll, noMemory}
 use Rattle.array_memory.proofs.Asked.{all-sized}
 use Rattle.array_questions.specs.Questions.{startArguments, stepArguments}
 use Rattle.cycle_lookup.specs.Lookup.{entryMatches}
-use Rattle.cycle.specs.Record.{cycleAt}
-use Rattle.cycle.specs.Calls.{State, stateOf, started, startCall}
-use Rattle.cycle.specs.Methods.{changing}
-use Rattle.cycle.proofs.Asked.{skip-below, start-asked}
-use Rattle.cycle.proofs.CycleRecord.{record-skip}
+use Rattle.cycle.specs.Record.{cycleAt, isNext}
+use Rattle.cycle.specs.Calls.{State, stateOf, started, startCall, stepQuestions}
+use Rattle.cycle.proofs.Asked.{skip-below, start-asked, lent-asked, step-asked}
+use Rattle.cycle.proofs.CycleRecord.{next-open}
 use Rattle.cycle.proofs.Steps.{started-sized, start-done}
 use Rattle.cycle.proofs.Given.{gives-refusal}
 use Rattle.cycle_run.specs.Cycles.{afterSteps, cycleQuestions, lastMatches, cycleCall}
+use Rattle.cycle_run.specs.Steps.{stepsCall}
+use Rattle.cycle_run.proofs.Stepping.{At, stepping-all}
 use Rattle.cycle_run.proofs.run_cycle.Statement.{statement}
 use Rattle.cycle_run.proofs.run_cycle.Tie as tie
 
@@ -53,16 +60,16 @@ passed c = c .before .before .before .before
 abbrev totalled : tie.After-slice-known7 → tie.After-slice-known5
 totalled c = c .before .before .before .before
 
-abbrev lending : tie.After-run-open-arg4 → tie.After-slice-known7
+abbrev lending : tie.After-steps-lent-arg4 → tie.After-slice-known7
 lending c = c .before .before .before .before
 
-abbrev opened : tie.After-run-open-arg4 → tie.After-start-lent
+abbrev opened : tie.After-steps-lent-arg4 → tie.After-start-lent
 opened c = totalled (lending c) .before .before
 
 abbrev matched : tie.After-slice-known11 → tie.After-slice-known9
 matched c = c .before .before .before .before
 
-abbrev ran : tie.After-slice-known11 → tie.After-run-open
+abbrev ran : tie.After-slice-known11 → tie.After-steps-lent
 ran c = matched c .before .before .before .before
 
 -- what is answered to all the questions
@@ -135,8 +142,30 @@ module _ (c : tie.After-start-lent) where
   unfolding started
   opened-cycle = ap (λ st. st .cycle) made
 
-  kept : c .start-lent .result .skip ≡ entry .args .skip
-  kept = ap (λ r. r .skip) (sym opened-cycle) ∙ record-skip (entry .args .skip) (entry .args .shape) 0
+  first-sized : Sized (entry .args .shape) (first noMemory .memory)
+  first-sized =
+      subst (λ st. Sized (entry .args .shape) (st .memory)) made (started-sized _ (given noMemory) (sized (passed c)) (entry .args .skip))
+
+  -- steps from it, no fewer than the cycle has, lead to its end
+  steps-made :
+      (mem : Memory) (n : ℕ) → let s = entry .args .shape in
+      let z = entry .args .skip in
+      let matches = entry .args .matches .now in
+      cycleSteps z s ≤ n → stepsCall s (first mem) n matches
+      ≡ giving (accepted 0) (lastMatches z s (lent entry mem)) (afterSteps s (first mem) (replicate (cycleSteps z s) matches))
+  unfolding stepsCall lastMatches entryMatches
+  steps-made mem n enough =
+      let s = entry .args .shape in
+      let z = entry .args .skip in
+      let t = parts (passed c) .taken in
+      let matches = entry .args .matches .now in
+      let l = matches-sized (passed c) in
+      let at : At z s 0 (first mem) = record { sized = first-sized; cycle = sym opened-cycle } in
+      let next : isNext s (c .start-lent .result) ≡ true = ap (isNext s) (sym opened-cycle) ∙ next-open z s t 0 (partial (passed c)) (omega arith) in
+      call-done (stepQuestions s (first mem) matches) matches (first mem) _
+      (step-asked s t (first mem) first-sized matches ∙ simp (equal-alongside (length matches ∷ []) (s .rows ∷ []) (λ i. l i ∷ []), next))
+      ∙ stepping-all z s t (partial (passed c)) matches l (cycleSteps z s) n 0 (first mem) at (omega arith) enough matches l
+      (λ low. absurd (omega arith))
 
 check-shape-requires : tie.Need-check-shape-requires
 check-shape-requires c κs = search needs
@@ -166,26 +195,18 @@ start-lent-requires c κs =
       sizes = asked told .sizes;
     }
 
-run-open-requires : tie.Need-run-open-requires
-unfolding started
-run-open-requires c κs =
+steps-lent-requires : tie.Need-steps-lent-requires
+steps-lent-requires c κs =
     let begin = opened c in
     let told = passed begin in
     let start = entry begin in
-    let s = start .args .shape in (
-      record {
-        taken = parts told .taken;
-        partial = rw (kept begin) (partial told);
-        first = sym (opened-cycle begin) ∙ ap (λ z. cycleAt z s 0) (sym (kept begin));
-      },
-      record {
-        memory = subst (λ st. Sized s (st .memory)) (made begin) (started-sized _ (given begin noMemory) (sized told) (start .args .skip));
-        matches = matches-sized told;
-      },
-    )
-
-done-requires : tie.Need-done-requires
-done-requires c κs = search needs
+    let s = start .args .shape in
+    record {
+      none =
+          lent-asked s (parts told .taken) (first begin noMemory) (first-sized begin) [] (length (start .args .matches .now))
+          ∙ simp (equal-alongside (length (start .args .matches .now) ∷ []) (s .rows ∷ []) (λ i. matches-sized told i ∷ []));
+      sizes = asked told .sizes;
+    }
 
 -- refused
 returns : tie.Need-returns
@@ -199,7 +220,7 @@ returns c =
     (answer-refused (questions start) (start .args .shape) (answer .check-lent .result) (answered answer) (number .0 .0) (number .1)) (c .refused .ensures)
 
 same-length : tie.Need-same-length
-same-length c = let steps = ran (c .before) in steps .run-open .kept .1 .1 .1 .1 .0 ∙ opened (steps .before) .start-lent .kept .1 .1 .1 .0
+same-length c = let steps = ran c in steps .steps-lent .kept .1 .1 .1 .1 .1 .1 .0 ∙ opened (steps .before) .start-lent .kept .1 .1 .1 .0
 
 same-length-2 : tie.Need-same-length-2
 same-length-2 c = search needs
@@ -212,20 +233,18 @@ same-length-4 c = search needs
 
 -- a whole cycle
 returns-2 : tie.Need-returns-2
-unfolding cycleCall lastMatches entryMatches
+unfolding cycleCall
 returns-2 c =
-    let steps = ran (c .before) in
+    let steps = ran c in
     let begin = opened (steps .before) in
     let start = entry begin in
     let s = start .args .shape in
+    let z = start .args .skip in
     let matches = start .args .matches .now in
-    let last = steps .run-open .last .1 .1 .1 .1 in
     λ mem. call-done (questions start) matches (given begin mem) _ (asked (passed begin) .none)
-    ∙ ap₂ (λ z st. giving (accepted 0) (lastMatches z s (lent start mem)) (afterSteps s st (replicate (cycleSteps z s) matches))) (sym (kept begin))
-    (left begin mem)
-    ∙ steps .run-open .ensures mem
-    ∙ ap (λ r. changing r (last .1 .1 .1 .0) (withAll (start .args .cells .now) (start .args .lines .now) (last .0) (last .1 .0) (last .1 .1 .0) mem))
-    (sym (c .done .ensures))
+    ∙ ap (λ st. giving (accepted 0) (lastMatches z s (lent start mem)) (afterSteps s st (replicate (cycleSteps z s) matches))) (left begin mem)
+    ∙ sym (steps-made begin mem mostSteps (omega (arith, lookups-high z s (parts (passed begin) .taken))))
+    ∙ steps .steps-lent .ensures mem
 
 pub run-cycle-spec : {M : Type 1} → statement M
 run-cycle-spec =
@@ -238,8 +257,7 @@ run-cycle-spec =
     refused-requires
     enum-known-sizes
     start-lent-requires
-    run-open-requires
-    done-requires
+    steps-lent-requires
     returns
     same-length
     same-length-2

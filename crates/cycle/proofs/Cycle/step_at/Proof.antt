@@ -1,43 +1,33 @@
 -- `cycle::Cycle::step_at` meets its contract: `locate` asks 9 and tells the lookup and the place after it, `make_opening` or `make_test` makes the
 -- lookup, and the record is moved on. Assumes nothing.
 use mathlib.Core.Path.{_≡_, refl, sym, ap, _∙_}
-use mathlib.Core.Bool.{Bool, true, false, cond}
+use mathlib.Core.Bool.{true, false}
 use mathlib.Core.List.{List, [], _∷_}
-use Prim.Native.Nat.{ℕ, zero, suc, _<_}
-use native.Mathlib.Nat.{zero-lt-suc}
-use native.Mathlib.Omega.{arith}
+use Prim.Native.Nat.{ℕ, suc, _<_}
 use lib.Dec.{lit<}
 use lib.ListN.{length}
 use borrow.Author.Needs.{needs}
 use Rattle.parity.specs.Shape.{columns}
-use Rattle.parity.specs.Questions.{Question, firstNo, Taken, lengthsQuestion}
-use Rattle.parity.specs.declared.Shape.{Shape}
-use Rattle.parity.proofs.Taken.{first-yes}
-use Rattle.parity.proofs.Longest.{lookups-high}
+use Rattle.parity.specs.Questions.{Question, firstNo, Taken}
 use Rattle.parity.proofs.MatrixFacts.{matrixClaim}
-use Rattle.shape.proofs.Refusals.{first-rest, length-lent, CallPassed, call-passed}
-use Rattle.array_questions.specs.Questions.{stepArguments, lentQuestions}
-use Rattle.schedule.specs.Schedule.{Entry, opening, schedule}
+use Rattle.shape.proofs.Refusals.{first-rest}
+use Rattle.array_questions.specs.Questions.{lentQuestions}
+use Rattle.schedule.specs.Schedule.{Entry, opening}
 use Rattle.array_memory.specs.Blocks.{blocksOf}
-use Rattle.array_memory.specs.Lengths.{allWanted, allLengths, Sized}
+use Rattle.array_memory.specs.Lengths.{allLengths, Sized}
 use Rattle.array_memory.specs.Memory.{Memory, withRows, withAll, noMemory}
-use Rattle.array_memory.proofs.Asked.{all-sized}
-use Rattle.cycle_place.specs.Places.{entryAt, nextAt}
-use Rattle.cycle_place.specs.Walk.{hereAt, testOf, toldAt}
-use Rattle.cycle_place.specs.declared.Place.{Place}
-use Rattle.cycle_place.specs.declared.walk.Here.{Here}
-use Rattle.cycle_place.specs.declared.walk.Next.{Next}
-use Rattle.cycle_place.specs.declared.walk.Located.the-variants.{Opening, Test, Elsewhere}
+use Rattle.cycle_place.specs.Places.{nextAt}
+use Rattle.cycle_place.specs.Walk.{hereAt, testOf}
 use Rattle.cycle_place.proofs.Places.{place-entry}
 use Rattle.cycle_lookup.specs.Lookup.{entryMatches, lookedUp}
-use Rattle.cycle.specs.Moves.{Movable}
 use Rattle.cycle.specs.Record.{recordAt, cycleAt, nextEntry, isNext, cycleQuestion}
 use Rattle.cycle.specs.Calls.{stateOf, stepMatches, steppedMemory, stepped, stepCall}
 use Rattle.cycle.specs.Methods.{changing, doneWith}
 use Rattle.cycle.specs.declared.Cycle.{Cycle}
 use Rattle.cycle.specs.declared.Changed.{Changed}
-use Rattle.cycle.proofs.CycleRecord.{next-record, next-phase, next-place}
+use Rattle.cycle.proofs.CycleRecord.{next-place}
 use Rattle.cycle.proofs.Given.{gives-refusal, gives-done}
+use Rattle.cycle.proofs.Located.{told-opening, told-test, told-none, entry-opening, movable, lent-taken, lent-sized, lent-matches}
 use Rattle.cycle.proofs.Cycle.step_at.Statement.{statement}
 use Rattle.cycle.proofs.Cycle.step_at.Tie as tie
 
@@ -51,23 +41,6 @@ first c = lentQuestions (c .args .shape) [] (allLengths (lent c noMemory)) (leng
 
 abbrev more : tie.Start → List Question
 more c = cycleQuestion (c .args .shape) (c .args .self) ∷ []
-
--- what `locate` tells
-module _ (z : ℕ) (s : Shape) (place : Place) where
-  opens : (b : Bool) (c : ℕ) (next : Next) → cond b (toldAt z s c place) Elsewhere ≡ Opening next → (b ≡ true) × (c ≡ 0) × (next ≡ nextAt z s 1)
-  opens true zero next e = (refl, refl, cc)
-  opens true (suc c) next e = let never : _≡_ {A = ℕ} 0 1 = cc in absurd (omega arith)
-  opens false c next e = let never : _≡_ {A = ℕ} 0 1 = cc in absurd (omega arith)
-
-  tests : (b : Bool) (c : ℕ) (here : Here) → cond b (toldAt z s c place) Elsewhere ≡ Test here → (b ≡ true) × (0 < c) × (here ≡ hereAt z s c place)
-  tests true zero here e = let never : _≡_ {A = ℕ} 0 1 = cc in absurd (omega arith)
-  tests true (suc c) here e = (refl, zero-lt-suc c, cc)
-  tests false c here e = let never : _≡_ {A = ℕ} 0 1 = cc in absurd (omega arith)
-
-  missed : (b : Bool) (c : ℕ) → cond b (toldAt z s c place) Elsewhere ≡ Elsewhere → b ≡ false
-  missed true zero e = let never : _≡_ {A = ℕ} 0 1 = cc in absurd (omega arith)
-  missed true (suc c) e = let never : _≡_ {A = ℕ} 0 1 = cc in absurd (omega arith)
-  missed false c e = refl
 
 -- the places of the start and of the lookup, each from one that follows
 abbrev known : tie.After-slice-known2 → tie.After-shared-slice-known
@@ -106,23 +79,14 @@ test-told c = lending (c .before) .before
 -- ---- what is given
 
 module _ (c : tie.Start) where
-  passed : CallPassed (c .args .shape) [] (lengthsQuestion (allLengths (lent c noMemory)) (allWanted (c .args .shape)))
-      (stepArguments (c .args .shape) (length (c .args .matches .now)))
-  passed =
-      let s = c .args .shape in
-      call-passed s [] (lengthsQuestion (allLengths (lent c noMemory)) (allWanted s)) (stepArguments s (length (c .args .matches .now))) refl (lit< tt)
-      (c .pre .1)
-
   taken : Taken (c .args .shape)
-  taken = passed .taken
+  taken = lent-taken (c .args .shape) (lent c noMemory) (length (c .args .matches .now)) (c .pre .1)
 
   sized : Sized (c .args .shape) (lent c noMemory)
-  sized = all-sized (c .args .shape) (lent c noMemory) (passed .lent)
+  sized = lent-sized (c .args .shape) (lent c noMemory) (length (c .args .matches .now)) (c .pre .1)
 
   matches-sized : length (c .args .matches .now) ≡ c .args .shape .rows
-  matches-sized =
-      let six = first-yes _ 0 6 (lit< tt) (passed .arguments) in
-      length-lent (length (c .args .matches .now) ∷ []) (c .args .shape .rows ∷ []) (six .0) 0
+  matches-sized = lent-matches (c .args .shape) (lent c noMemory) (length (c .args .matches .now)) (c .pre .1)
 
 -- as many columns are lent as the shape has
 wide : (c : tie.Start) → length (c .args .matrix .now) ≡ columns (c .args .shape)
@@ -133,7 +97,7 @@ opening-found :
     (isNext (args .shape) (args .self) ≡ true) × (args .self .count ≡ 0) × (c .before .next .given .0 .0 ≡ nextAt (args .self .skip) (args .shape) 1)
 opening-found c =
     let args = begun (located c .before) .args in
-    opens (args .self .skip) (args .shape) (args .self .place) _ _ _ (sym (located c .locate .ensures) ∙ c .before .next .given .1)
+    told-opening (args .self .skip) (args .shape) (args .self .place) _ _ _ (sym (located c .locate .ensures) ∙ c .before .next .given .1)
 
 test-found :
     (c : tie.After-known-told2) → let args = begun (located-test c .before) .args in
@@ -142,22 +106,7 @@ test-found :
     × (c .before .here .given .0 .0 ≡ hereAt (args .self .skip) (args .shape) (args .self .count) (args .self .place))
 test-found c =
     let args = begun (located-test c .before) .args in
-    tests (args .self .skip) (args .shape) (args .self .place) _ _ _ (sym (located-test c .locate .ensures) ∙ c .before .here .given .1)
-
--- a record that question 9 takes can be moved on
-movable : (c : tie.Start) → isNext (c .args .shape) (c .args .self) ≡ true → Movable (c .args .self)
-movable c next =
-    let self = c .args .self in
-    let s = c .args .shape in
-    record {
-      open-phase = next-phase s (taken c) self next;
-      below = omega (arith, next-record s (taken c) self next .1, lookups-high (self .skip) s (taken c));
-    }
-
--- the entry that is next is the opening
-entry-opening : (s : Shape) (cycle : Cycle) → cycle .count ≡ 0 → nextEntry s cycle ≡ opening
-unfolding entryAt schedule
-entry-opening s cycle none = ap (entryAt (cycle .skip) s) none
+    told-test (args .self .skip) (args .shape) (args .self .place) _ _ _ (sym (located-test c .locate .ensures) ∙ c .before .here .given .1)
 
 -- what a step gives where question 9 is passed
 step-gives :
@@ -197,7 +146,9 @@ make-opening-requires c κs =
     }
 
 moved-requires : tie.Need-moved-requires
-moved-requires c κs = let told = opening-told (opening-made c) in movable (begun (located told .before)) (opening-found told .0)
+moved-requires c κs =
+    let told = opening-told (opening-made c) in
+    let start = begun (located told .before) in movable (start .args .shape) (taken start) (start .args .self) (opening-found told .0)
 
 done-requires : tie.Need-done-requires
 done-requires c κs = search needs
@@ -221,7 +172,9 @@ make-test-requires c κs =
     )
 
 moved-requires-2 : tie.Need-moved-requires-2
-moved-requires-2 c κs = let told = test-told (test-made c) in movable (begun (located-test told .before)) (test-found told .0)
+moved-requires-2 c κs =
+    let told = test-told (test-made c) in
+    let start = begun (located-test told .before) in movable (start .args .shape) (taken start) (start .args .self) (test-found told .0)
 
 done-requires-2 : tie.Need-done-requires-2
 done-requires-2 c κs = search needs
@@ -236,7 +189,7 @@ returns c =
     let s = start .args .shape in
     let self = start .args .self in
     let fails : isNext s self ≡ false =
-    missed (self .skip) s (self .place) _ (self .count) (sym (lookup .locate .ensures) ∙ missing .enum-told .given .1) in
+    told-none (self .skip) s (self .place) _ (self .count) (sym (lookup .locate .ensures) ∙ missing .enum-told .given .1) in
     let own : firstNo (more start) ≡ 9 = rw fails refl in
     λ mem. gives-refusal _ (start .args .matches .now) (lent start mem) self _ _ 9
     (first-rest (first start) (more start) refl (start .pre .1) ∙ own, lit< tt) (c .refused .ensures)

@@ -1,22 +1,12 @@
 -- `cycle::Cycle::step_lent` meets its contract: the check matrix is made in an array, and `step_at` is lent that part of it. Assumes nothing.
-use mathlib.Core.Path.{_≡_, refl, sym, _∙_, ap}
-use mathlib.Core.List.{List, [], _++_}
-use Prim.Native.Nat.{ℕ, _≤_}
-use native.Mathlib.Omega.{arith}
-use lib.Dec.{lit<}
-use lib.ListN.{length, take, drop, length-append}
-use lib.Seq.{length-take-le, take-at}
+use mathlib.Core.Path.{_≡_, sym, ap, _∙_}
+use lib.ListN.{length}
 use borrow.Author.Needs.{needs}
 use Rattle.parity.specs.Shape.{columns}
-use Rattle.parity.specs.Matrix.{matrix}
-use Rattle.parity.specs.Questions.{Taken, lengthsQuestion}
-use Rattle.parity.proofs.MatrixFacts.{matrixClaim}
-use Rattle.parity.proofs.Sizes.{columns-high}
-use Rattle.shape.proofs.Refusals.{call-passed}
-use Rattle.acam.proofs.MatrixArray.{zeros}
-use Rattle.array_memory.specs.Lengths.{allWanted, allLengths}
-use Rattle.array_memory.specs.Memory.{withAll, noMemory}
-use Rattle.array_questions.specs.Questions.{stepArguments}
+use Rattle.parity.specs.Questions.{Taken}
+use Rattle.acam.proofs.MatrixArray.{part-fits, part-sized, part-within, part-made, part-length}
+use Rattle.array_memory.specs.Memory.{Memory, withAll, noMemory}
+use Rattle.cycle.proofs.Located.{lent-taken}
 use Rattle.cycle.proofs.Cycle.step_lent.Statement.{statement}
 use Rattle.cycle.proofs.Cycle.step_lent.Tie as tie
 
@@ -33,66 +23,53 @@ filled c = c .before .before .before .before
 -- ---- what is given
 
 module _ (c : tie.Start) where
-  abbrev lengths : List ℕ
-  lengths = allLengths (withAll (c .args .cells .now) (c .args .lines .now) (c .args .counters .now) (c .args .flags .now) (c .args .totals .now) noMemory)
+  abbrev lent : Memory
+  lent = withAll (c .args .cells .now) (c .args .lines .now) (c .args .counters .now) (c .args .flags .now) (c .args .totals .now) noMemory
 
   taken : Taken (c .args .shape)
-  taken =
-      let s = c .args .shape in
-      call-passed s [] (lengthsQuestion lengths (allWanted s)) (stepArguments s (length (c .args .matches .now))) refl (lit< tt) (c .pre .none) .taken
+  taken = lent-taken (c .args .shape) lent (length (c .args .matches .now)) (c .pre .none)
 
   wide : c .args .sizes .columns ≡ columns (c .args .shape)
   wide = ap (λ z. z .columns) (c .pre .sizes)
 
-  fits : c .args .sizes .columns ≤ 255
-  fits = omega (arith, wide, columns-high (c .args .shape) taken)
-
 array-borrow-prefix-matrix : tie.Need-array-borrow-prefix-matrix
-array-borrow-prefix-matrix c = fits (begun c)
+array-borrow-prefix-matrix c = let s = begun c in part-fits (s .args .shape) (taken s) _ (wide s)
 
 slice-aggregate-fill-matrix : tie.Need-slice-aggregate-fill-matrix
-slice-aggregate-fill-matrix c = sym (length-take-le _ zeros (fits (begun (c .before))))
+slice-aggregate-fill-matrix c = let s = begun (c .before) in sym (part-sized (s .args .shape) (taken s) _ (wide s))
 
 fill-matrix-requires : tie.Need-fill-matrix-requires
 fill-matrix-requires c κs =
-    let start = begun (c .before) in
+    let s = begun (c .before) in
     record {
-      taken = taken start;
-      checks = ap (λ z. z .checks) (start .pre .sizes);
-      columns = length-take-le _ zeros (fits start) ∙ wide start;
+      taken = taken s;
+      checks = ap (λ z. z .checks) (s .pre .sizes);
+      columns = part-sized (s .args .shape) (taken s) _ (wide s) ∙ wide s;
     }
 
 -- once the columns are made
-module _ (c : tie.After-matrix2) where
-  abbrev start : tie.Start
-  start = begun (c .before .before .before)
-
-  abbrev made : List ℕ
-  made = c .before .fill-matrix .last .0
-
-  counted : length made ≡ start .args .sizes .columns
-  counted = ap length (c .before .fill-matrix .ensures) ∙ matrixClaim (start .args .shape) (taken start) .sized ∙ sym (wide start)
-
-  -- the part of the array that holds them
-  part : take (start .args .sizes .columns) (made ++ drop (start .args .sizes .columns) zeros) ≡ made
-  part = take-at made (drop (start .args .sizes .columns) zeros) (start .args .sizes .columns) counted
+abbrev start : tie.After-matrix2 → tie.Start
+start c = begun (c .before .before .before)
 
 array-share-prefix-matrix : tie.Need-array-share-prefix-matrix
-array-share-prefix-matrix c = omega (arith, length-append (made c) (drop (start c .args .sizes .columns) zeros), counted c)
+array-share-prefix-matrix c = let s = start c in part-within (s .args .shape) (taken s) _ (wide s) _ (c .before .fill-matrix .ensures)
 
 slice-aggregate-step-at : tie.Need-slice-aggregate-step-at
-slice-aggregate-step-at c = sym (ap length (part (c .before)) ∙ counted (c .before))
+slice-aggregate-step-at c =
+    let s = start (c .before) in
+    sym (part-length (s .args .shape) (taken s) _ (wide s) _ (c .before .before .fill-matrix .ensures))
 
 step-at-requires : tie.Need-step-at-requires
 step-at-requires c κs =
     let known = filled c .before in
-    let begin = start known in (
+    let s = start known in
+    let made = known .before .fill-matrix .ensures in (
       record {
-        taken = taken begin;
-        checks = ap (λ z. z .checks) (begin .pre .sizes);
-        matrix = part known ∙ known .before .fill-matrix .ensures;
+        taken = taken s;
+        checks = ap (λ z. z .checks) (s .pre .sizes);
+        matrix = part-made (s .args .shape) (taken s) _ (wide s) _ made ∙ made;
       },
-      begin .pre .none,
+      s .pre .none,
     )
 
 same-length : tie.Need-same-length

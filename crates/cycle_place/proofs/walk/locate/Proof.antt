@@ -1,19 +1,15 @@
--- `cycle_place::walk::locate` meets its contract: the lookup after no other is the opening, and every other a test, whose next place `advance` gives.
+-- `cycle_place::walk::locate` meets its contract: the lookup after no other is the opening, and every other a test, which `follow` tells the rest of.
 -- Assumes nothing.
-use mathlib.Core.Path.{_≡_, refl, sym, ap, ap₂, _∙_}
-use mathlib.Core.Bool.{Bool, true, false, cond, _&&_}
+use mathlib.Core.Path.{_≡_, refl, sym, ap, _∙_}
+use mathlib.Core.Bool.{Bool, true, false, cond}
 use Prim.Native.Nat.{ℕ, zero, suc, _<_}
 use native.Mathlib.Omega.{arith}
-use lib.Dec.{eqb}
 use borrow.Author.Needs.{needs}
 use Rattle.parity.specs.declared.Shape.{Shape}
-use Rattle.schedule.specs.Index.{supportSize, endsAt}
-use Rattle.schedule.proofs.Ranks.{stands-support}
-use Rattle.cycle_place.specs.Places.{isPlaceOf, nextAt}
-use Rattle.cycle_place.specs.Walk.{extentAt, hereAt, toldAt, locatedAt}
+use Rattle.schedule.specs.Index.{span}
+use Rattle.cycle_place.specs.Places.{isPlaceOf}
+use Rattle.cycle_place.specs.Walk.{hereAt, toldAt, locatedAt}
 use Rattle.cycle_place.specs.declared.Place.{Place}
-use Rattle.cycle_place.specs.declared.walk.Extent.{Extent}
-use Rattle.cycle_place.specs.declared.walk.Here.{Here}
 use Rattle.cycle_place.specs.declared.walk.Sought.the-variants as soughts
 use Rattle.cycle_place.specs.declared.walk.Located.the-variants.{Test, Elsewhere}
 use Rattle.cycle_place.proofs.Places.{AtPlace, place-at}
@@ -21,11 +17,11 @@ use Rattle.cycle_place.proofs.walk.locate.Statement.{statement}
 use Rattle.cycle_place.proofs.walk.locate.Tie as tie
 
 -- what the search for a test tells
-sought-at : (b : Bool) (v w : Extent) → cond b (soughts.At w) soughts.Elsewhere ≡ soughts.At v → (b ≡ true) × (v ≡ w)
+sought-at : (b : Bool) (v w : ℕ) → cond b (soughts.At w) soughts.Elsewhere ≡ soughts.At v → (b ≡ true) × (v ≡ w)
 sought-at true v w e = (refl, cc)
 sought-at false v w e = let never : _≡_ {A = ℕ} 0 1 = cc in absurd (omega arith)
 
-sought-none : (b : Bool) (w : Extent) → cond b (soughts.At w) soughts.Elsewhere ≡ soughts.Elsewhere → b ≡ false
+sought-none : (b : Bool) (w : ℕ) → cond b (soughts.At w) soughts.Elsewhere ≡ soughts.Elsewhere → b ≡ false
 sought-none true w e = let never : _≡_ {A = ℕ} 0 1 = cc in absurd (omega arith)
 sought-none false w e = refl
 
@@ -47,8 +43,8 @@ module _ (c : tie.After-known-told) where
 
   found :
       (isPlaceOf (start .args .skip) (start .args .shape) (start .args .count) (start .args .place) ≡ true)
-      × (c .before .extent .given .0 .0 ≡ extentAt (start .args .shape) (start .args .place))
-  found = sought-at _ _ _ (sym (sought c .locate-test .ensures) ∙ c .before .extent .given .1)
+      × (c .before .span .given .0 .0 ≡ span (start .args .shape) (start .args .place .digit))
+  found = sought-at _ _ _ (sym (sought c .locate-test .ensures) ∙ c .before .span .given .1)
 
   at : AtPlace (start .args .skip) (start .args .shape) (start .args .count) (start .args .place)
   at = place-at (start .args .skip) (start .args .shape) (start .pre .taken) (start .args .count) (omega arith) (start .args .place) (found .0)
@@ -70,21 +66,11 @@ locate-test-requires c κs = (c .before .before .pre, omega arith)
 enum-told : tie.Need-enum-told
 enum-told c = search needs
 
-enum-known-extent : tie.Need-enum-known-extent
-enum-known-extent c = search needs
+enum-known-span : tie.Need-enum-known-span
+enum-known-span c = search needs
 
-ends-digit-requires : tie.Need-ends-digit-requires
-unfolding supportSize
-ends-digit-requires c κs =
-    let s = start c .args .shape in
-    let p = start c .args .place in
-    let place = at c .0 in
-    let extent = found c .1 in
-    let ranked = stands-support s (start c .pre .taken) (p .check) (p .column) (place .column) (place .held) .0 in
-    record { column = omega (arith, ap (λ v. v .rank) extent, ap (λ v. v .size) extent); factor = omega (arith, place .high, ap (λ v. v .span) extent) }
-
-advance-requires : tie.Need-advance-requires
-advance-requires c κs = let known = c .before in (start known .pre, record { stands = at known .0; extent = found known .1 })
+follow-requires : tie.Need-follow-requires
+follow-requires c κs = (start c .pre, record { stands = at c .0; span = found c .1 })
 
 -- another place
 returns-2 : tie.Need-returns-2
@@ -92,22 +78,18 @@ returns-2 c =
     let test = c .before .before in
     let args = begun test .args in
     let there = isPlaceOf (args .skip) (args .shape) (args .count) (args .place) in
-    let missed = sought-none there (extentAt (args .shape) (args .place)) (sym (test .locate-test .ensures) ∙ c .enum-told .given .1) in
+    let missed = sought-none there (span (args .shape) (args .place .digit)) (sym (test .locate-test .ensures) ∙ c .enum-told .given .1) in
     sym (ap (λ b. cond b (toldAt (args .skip) (args .shape) (args .count) (args .place)) Elsewhere) missed)
 
 -- a test
 returns-3 : tie.Need-returns-3
-unfolding endsAt
 returns-3 c =
-    let known = c .before .before in
+    let known = c .before in
     let args = start known .args in
     let z = args .skip in
     let s = args .shape in
     let p = args .place in
-    let extent = found known .1 in
-    let ends = c .before .ends-digit .ensures ∙ ap (λ v. eqb (suc (v .rank)) (v .size) && eqb (suc (p .factor)) (v .span)) extent in
-    let next = c .advance .ensures ∙ ap (λ c. nextAt z s (suc c)) (at known .1) in
-    ap₂ (λ ends next. Test (record { ends = ends; next = next })) ends next ∙ told-test z s (args .count) p (omega arith) (found known .0)
+    ap Test (c .follow .ensures ∙ ap (λ c. hereAt z s c p) (at known .1)) ∙ told-test z s (args .count) p (omega arith) (found known .0)
 
 pub locate-spec : {M : Type 1} → statement M
 locate-spec =
@@ -117,8 +99,7 @@ locate-spec =
     returns
     locate-test-requires
     enum-told
-    enum-known-extent
-    ends-digit-requires
-    advance-requires
+    enum-known-span
+    follow-requires
     returns-2
     returns-3)

@@ -26,10 +26,9 @@ use Rattle.parity.proofs.Sizes.{columns-high}
 use Rattle.schedule.specs.Index.{supportSize, rank, span, placeIndex}
 use Rattle.cycle_place.specs.Places.{isPlaceOf}
 use Rattle.cycle_place.specs.Survey.{surveyOf}
-use Rattle.cycle_place.specs.Walk.{Stands, indexOf, extentAt, soughtAt}
+use Rattle.cycle_place.specs.Walk.{Stands, indexOf, soughtAt}
 use Rattle.cycle_place.specs.declared.Place.{Place}
 use Rattle.cycle_place.specs.declared.columns.Survey.{Survey}
-use Rattle.cycle_place.specs.declared.walk.Extent.{Extent}
 use Rattle.cycle_place.specs.declared.walk.Sought.the-variants.{At, Elsewhere}
 use Rattle.cycle_place.proofs.CheckRows.{places-high, rows-high, bit-tested}
 use Rattle.cycle_place.proofs.Spans.{span-high, span-times, span-power, span-down, span-less}
@@ -102,13 +101,13 @@ module _ (c : tie.Start) where
   misplaced : (AtPlace skip shape (c .args .count) place → ⊥) → Elsewhere ≡ soughtAt skip shape (c .args .count) place
   misplaced not-there = go (isPlaceOf skip shape (c .args .count) place) (λ e. not-there (place-at skip shape taken (c .args .count) (c .pre .1) place e))
     where
-      go : (b : Bool) → (b ≡ true → ⊥) → Elsewhere ≡ cond b (At (extentAt shape place)) Elsewhere
+      go : (b : Bool) → (b ≡ true → ⊥) → Elsewhere ≡ cond b (At (span shape (place .digit))) Elsewhere
       go true h = absurd (h refl)
       go false h = refl
 
-  found : AtPlace skip shape (c .args .count) place → {v : Extent} → v ≡ extentAt shape place → At v ≡ soughtAt skip shape (c .args .count) place
+  found : AtPlace skip shape (c .args .count) place → {v : ℕ} → v ≡ span shape (place .digit) → At v ≡ soughtAt skip shape (c .args .count) place
   found at same =
-      ap At same ∙ sym (ap (λ b. cond b (At (extentAt shape place)) Elsewhere) (at-place skip shape taken (c .args .count) place at))
+      ap At same ∙ sym (ap (λ b. cond b (At (span shape (place .digit))) Elsewhere) (at-place skip shape taken (c .args .count) place at))
 
   radix-some : 0 < shape .radix
   radix-some = omega (arith, limits shape taken .radixLow)
@@ -329,12 +328,9 @@ returns-7 c =
 
 -- found
 returns-8 : tie.Need-returns-8
-unfolding supportSize rank support
 returns-8 c =
     let x = c .before .before .before .before in
-    let e = own-span (x .before .before) in
-    let v = survey (c .before .before .before) in
-    found (begun x) (placed x, sym (index (c .before)) ∙ c .if7 .left) (λ i. record { span = e i; size = v i .size; rank = v i .rank })
+    found (begun x) (placed x, sym (index (c .before)) ∙ c .if7 .left) (own-span (x .before .before))
 
 pub locate-test-spec : {M : Type 1} → statement M
 locate-test-spec =
