@@ -1,13 +1,16 @@
--- The comparison of inputs with the first cells of a row, place after place: what is left of it gives the whole comparison's answer.
--- Assumes nothing.
-use mathlib.Core.Path.{_≡_, sym, _∙_, ap}
-use mathlib.Core.Bool.{Bool, true, false}
-use mathlib.Core.List.{List}
-use Prim.Native.Nat.{ℕ, _+_, _≤_, _<_}
+-- The comparison of inputs with the first cells of a row: place after place, where what is left of it gives the whole comparison's answer, and stretch
+-- after stretch. Assumes nothing.
+use mathlib.Core.Path.{_≡_, refl, sym, _∙_, ap, ap₂, subst}
+use mathlib.Core.Bool.{Bool, true, false, _&&_, and-eq-true-iff, true≢false, false≢true}
+use mathlib.Core.List.{List, [], _∷_}
+use mathlib.Core.Logic.{⊎-elim}
+use Prim.Native.Nat.{ℕ, zero, suc, _+_, _-_, _≤_, _<_}
+use native.Mathlib.Nat.{eq-zero-or-pos}
 use native.Mathlib.Omega.{arith}
-use lib.ListN.{length, getD, take}
-use lib.Seq.{length-take-le, getD-take}
-use Rattle.parity.specs.Match.{answers}
+use lib.ListN.{length, getD, take, drop}
+use lib.Seq.{length-take-le, getD-take, getD-drop}
+use borrow.Rule.Slice.PartMut.{midOf, mid-len}
+use Rattle.parity.specs.Match.{answers, allAnswer}
 use Rattle.parity.proofs.Alongside.{alongsideFrom, alongside-fails, alongside-passes, alongside-ended}
 
 -- the comparison from place j on
@@ -31,3 +34,75 @@ module _ (inputs row : List ℕ) (fits : length inputs ≤ length row) where
 
   pub compare-ended : compared inputs row (length inputs) ≡ true
   compare-ended = alongside-ended answers inputs (take (length inputs) row) sized
+
+-- ---- stretches
+
+-- the cell in place i answers 1 to its input
+abbrev AnswersAt : List ℕ → List ℕ → ℕ → Type 0
+AnswersAt inputs row i = answers (getD inputs i 0) (getD row i 0) ≡ true
+
+-- the first n cells do
+abbrev pub FirstAnswer : List ℕ → List ℕ → ℕ → Type 0
+FirstAnswer inputs row n = (i : ℕ) → i < n → AnswersAt inputs row i
+
+-- the answer of all is that of each
+each-answers : (xs ys : List ℕ) → allAnswer xs ys ≡ true → FirstAnswer xs ys (length xs)
+each-answers [] ys e i h = absurd (omega arith)
+each-answers (x ∷ xs) [] e i h = absurd (false≢true e)
+each-answers (x ∷ xs) (y ∷ ys) e zero h = and-eq-true-iff (answers x y) (allAnswer xs ys) .0 e .0
+each-answers (x ∷ xs) (y ∷ ys) e (suc i) h = each-answers xs ys (and-eq-true-iff (answers x y) (allAnswer xs ys) .0 e .1) i (omega arith)
+
+all-answer : (xs ys : List ℕ) → length xs ≡ length ys → FirstAnswer xs ys (length xs) → allAnswer xs ys ≡ true
+all-answer [] [] same each = refl
+all-answer [] (y ∷ ys) same each = absurd (omega arith)
+all-answer (x ∷ xs) [] same each = absurd (omega arith)
+all-answer (x ∷ xs) (y ∷ ys) same each = ap₂ _&&_ (each 0 (omega arith)) (all-answer xs ys (omega arith) (λ i h. each (suc i) (omega arith)))
+
+-- a place of a stretch is one of the whole
+in-stretch :
+    (inputs row : List ℕ) (start n i : ℕ) → i < n
+    → answers (getD (midOf start n inputs) i 0) (getD (midOf start n row) i 0) ≡ answers (getD inputs (start + i) 0) (getD row (start + i) 0)
+in-stretch inputs row start n i h = ap₂ answers (at inputs) (at row)
+  where
+    at : (l : List ℕ) → getD (midOf start n l) i 0 ≡ getD l (start + i) 0
+    at l = getD-take n (drop start l) i 0 h ∙ getD-drop start l i 0
+
+module _ (inputs row : List ℕ) (fits : length inputs ≤ length row) (start end : ℕ) (within : end ≤ length inputs) where
+  -- a stretch of the comparison
+  abbrev stretch : Bool
+  stretch = allAnswer (midOf start (end - start) inputs) (midOf start (end - start) row)
+
+  -- where it says no, so does the whole
+  pub stretch-fails : stretch ≡ false → allAnswer inputs (take (length inputs) row) ≡ false
+  stretch-fails e = go (allAnswer inputs (take (length inputs) row)) refl
+    where
+      go : (all : Bool) → allAnswer inputs (take (length inputs) row) ≡ all → all ≡ false
+      go false all = refl
+      go true all =
+          let size = end - start in
+          let sized = mid-len start end inputs within in
+          let each : FirstAnswer (midOf start size inputs) (midOf start size row) (length (midOf start size inputs)) =
+          λ i h. in-stretch inputs row start size i (omega (arith, sized))
+          ∙ sym (cell inputs row fits (start + i) (omega (arith, sized)) _ refl)
+          ∙ each-answers inputs (take (length inputs) row) all (start + i) (omega (arith, sized)) in
+          absurd
+          (true≢false
+          (sym (all-answer (midOf start size inputs) (midOf start size row) (sized ∙ sym (mid-len start end row (omega arith))) each) ∙ e))
+
+  -- where it says yes, and the cells before it have answered, those up to its end have
+  pub stretch-passes : stretch ≡ true → FirstAnswer inputs row start → FirstAnswer inputs row end
+  stretch-passes e first i below = ⊎-elim later (λ before. first i (omega arith)) (eq-zero-or-pos (start - i))
+    where
+      later : start - i ≡ 0 → AnswersAt inputs row i
+      later here =
+          let size = end - start in
+          let at : start + (i - start) ≡ i = omega arith in
+          subst (AnswersAt inputs row) at
+          (sym (in-stretch inputs row start size (i - start) (omega arith))
+          ∙ each-answers (midOf start size inputs) (midOf start size row) e (i - start) (omega (arith, mid-len start end inputs within)))
+
+-- all have answered
+pub compare-all :
+    (inputs row : List ℕ) → length inputs ≤ length row → FirstAnswer inputs row (length inputs) → allAnswer inputs (take (length inputs) row) ≡ true
+compare-all inputs row fits first =
+    all-answer inputs (take (length inputs) row) (sized inputs row fits) (λ i h. cell inputs row fits i h true (first i h))

@@ -19,15 +19,17 @@ abbrev pub alongsideFrom : (ℕ → ℕ → Bool) → List ℕ → List ℕ → 
 alongsideFrom p xs ys j = alongside p (drop j xs) (drop j ys)
 
 module _ (p : ℕ → ℕ → Bool) (xs ys : List ℕ) (same : length xs ≡ length ys) where
-  next : (j : ℕ) → j < length xs → alongsideFrom p xs ys j ≡ p (getD xs j 0) (getD ys j 0) && alongsideFrom p xs ys (suc j)
-  next j h = ap₂ (alongside p) (drop-cons xs j 0 h) (drop-cons ys j 0 (omega arith))
+  pub alongside-next : (j : ℕ) → j < length xs → alongsideFrom p xs ys j ≡ p (getD xs j 0) (getD ys j 0) && alongsideFrom p xs ys (j + 1)
+  alongside-next j h =
+      ap₂ (alongside p) (drop-cons xs j 0 h) (drop-cons ys j 0 (omega arith))
+      ∙ ap (λ i. p (getD xs j 0) (getD ys j 0) && alongsideFrom p xs ys i) (sym (add-one j))
 
   pub alongside-fails : (j : ℕ) → j < length xs → p (getD xs j 0) (getD ys j 0) ≡ false → alongsideFrom p xs ys j ≡ false
-  alongside-fails j h e = next j h ∙ ap (λ t. t && alongsideFrom p xs ys (suc j)) e
+  alongside-fails j h e = alongside-next j h ∙ ap (λ t. t && alongsideFrom p xs ys (j + 1)) e
 
   pub alongside-passes :
       (j : ℕ) → j < length xs → p (getD xs j 0) (getD ys j 0) ≡ true → alongsideFrom p xs ys j ≡ alongsideFrom p xs ys (j + 1)
-  alongside-passes j h e = next j h ∙ ap (λ t. t && alongsideFrom p xs ys (suc j)) e ∙ ap (alongsideFrom p xs ys) (sym (add-one j))
+  alongside-passes j h e = alongside-next j h ∙ ap (λ t. t && alongsideFrom p xs ys (j + 1)) e
 
   pub alongside-ended : alongsideFrom p xs ys (length xs) ≡ true
   alongside-ended = ap₂ (alongside p) (drop-length xs) (ap (λ n. drop n ys) same ∙ drop-length ys)
