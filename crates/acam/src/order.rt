@@ -271,24 +271,22 @@ pub(crate) fn column_order() -> [u8; 255]
     ORDER
 }
 
-// Row r: how many of the numbers below 2^r have 1, 2, .., 8 ones.
-const CHOICES: [[u8; 8]; 9] = [
-    [0, 0, 0, 0, 0, 0, 0, 0],
-    [1, 0, 0, 0, 0, 0, 0, 0],
-    [2, 1, 0, 0, 0, 0, 0, 0],
-    [3, 3, 1, 0, 0, 0, 0, 0],
-    [4, 6, 4, 1, 0, 0, 0, 0],
-    [5, 10, 10, 5, 1, 0, 0, 0],
-    [6, 15, 20, 15, 6, 1, 0, 0],
-    [7, 21, 35, 35, 21, 7, 1, 0],
-    [8, 28, 56, 70, 56, 28, 8, 1],
-];
-
+// How many of the numbers below 2^checks have 1, 2, .., 8 ones. By cases, since a table would be written anew at each call.
 pub(crate) fn choices(checks: usize) -> [u8; 8]
     requires { ⌜ checks ≤ 8 ⌝ }
     ensures { λ r. ⌜ r ≡ tabulate 8 (λ w. choose checks (suc w)) ⌝ }
 {
-    CHOICES[checks]
+    match checks {
+        0 => [0, 0, 0, 0, 0, 0, 0, 0],
+        1 => [1, 0, 0, 0, 0, 0, 0, 0],
+        2 => [2, 1, 0, 0, 0, 0, 0, 0],
+        3 => [3, 3, 1, 0, 0, 0, 0, 0],
+        4 => [4, 6, 4, 1, 0, 0, 0, 0],
+        5 => [5, 10, 10, 5, 1, 0, 0, 0],
+        6 => [6, 15, 20, 15, 6, 1, 0, 0],
+        7 => [7, 21, 35, 35, 21, 7, 1, 0],
+        _ => [8, 28, 56, 70, 56, 28, 8, 1],
+    }
 }
 
 // The ones of a column.

@@ -1,50 +1,65 @@
--- `acam::order::choices` meets its contract: one computed test holds the table to `choose`. Assumes nothing.
-use mathlib.Core.Path.{_≡_, refl}
-use mathlib.Core.Bool.{Bool, true}
-use mathlib.Core.List.{List, [], _∷_}
-use Prim.Native.Nat.{ℕ, suc}
+-- `acam::order::choices` meets its contract: each case is computed. Assumes nothing.
+use mathlib.Core.Path.{_≡_, sym, ap}
+use mathlib.Core.List.{List}
+use mathlib.Core.Logic.{_≢_}
+use Prim.Native.Nat.{ℕ, suc, _≤_}
 use native.Mathlib.Omega.{arith}
-use lib.Dec.{eqb}
-use lib.ListN.{getD}
-use borrow.Author.Tests.{eqb-true}
-use Rattle.parity.specs.Lists.{tabulate, everyTo, differences}
-use Rattle.parity.proofs.ListLaws.{everyTo-at, differences-zero}
+use Rattle.parity.specs.Lists.{tabulate}
 use Rattle.acam.specs.Matrices.{choose}
 use Rattle.acam.proofs.order.choices.Statement.{statement}
 use Rattle.acam.proofs.order.choices.Tie as tie
 
--- the source's table
-abbrev table : List (List ℕ)
-table =
-    (0 ∷ 0 ∷ 0 ∷ 0 ∷ 0 ∷ 0 ∷ 0 ∷ 0 ∷ [])
-    ∷ (1 ∷ 0 ∷ 0 ∷ 0 ∷ 0 ∷ 0 ∷ 0 ∷ 0 ∷ [])
-    ∷ (2 ∷ 1 ∷ 0 ∷ 0 ∷ 0 ∷ 0 ∷ 0 ∷ 0 ∷ [])
-    ∷ (3 ∷ 3 ∷ 1 ∷ 0 ∷ 0 ∷ 0 ∷ 0 ∷ 0 ∷ [])
-    ∷ (4 ∷ 6 ∷ 4 ∷ 1 ∷ 0 ∷ 0 ∷ 0 ∷ 0 ∷ [])
-    ∷ (5 ∷ 10 ∷ 10 ∷ 5 ∷ 1 ∷ 0 ∷ 0 ∷ 0 ∷ [])
-    ∷ (6 ∷ 15 ∷ 20 ∷ 15 ∷ 6 ∷ 1 ∷ 0 ∷ 0 ∷ [])
-    ∷ (7 ∷ 21 ∷ 35 ∷ 35 ∷ 21 ∷ 7 ∷ 1 ∷ 0 ∷ [])
-    ∷ (8 ∷ 28 ∷ 56 ∷ 70 ∷ 56 ∷ 28 ∷ 8 ∷ 1 ∷ [])
-    ∷ []
-
-right : ℕ → Bool
-right r = eqb (differences (getD table r []) (tabulate 8 (λ w. choose r (suc w)))) 0
-
-rights : everyTo 9 right ≡ true
-unfolding right choose
-rights = refl
-
-mul-result : tie.Need-mul-result
-mul-result c = omega arith
-
-array-copy-out-result : tie.Need-array-copy-out-result
-array-copy-out-result c = omega arith
+-- how many of the numbers below 2^r have 1, 2, .., 8 ones
+abbrev counts : ℕ → List ℕ
+counts r = tabulate 8 (λ w. choose r (suc w))
 
 returns : tie.Need-returns
-unfolding right
-returns c =
+unfolding choose
+returns c = sym (ap counts (c .match .keys1))
+
+returns-2 : tie.Need-returns-2
+unfolding choose
+returns-2 c = sym (ap counts (c .match .keys2))
+
+returns-3 : tie.Need-returns-3
+unfolding choose
+returns-3 c = sym (ap counts (c .match .keys3))
+
+returns-4 : tie.Need-returns-4
+unfolding choose
+returns-4 c = sym (ap counts (c .match .keys4))
+
+returns-5 : tie.Need-returns-5
+unfolding choose
+returns-5 c = sym (ap counts (c .match .keys5))
+
+returns-6 : tie.Need-returns-6
+unfolding choose
+returns-6 c = sym (ap counts (c .match .keys6))
+
+returns-7 : tie.Need-returns-7
+unfolding choose
+returns-7 c = sym (ap counts (c .match .keys7))
+
+returns-8 : tie.Need-returns-8
+unfolding choose
+returns-8 c = sym (ap counts (c .match .keys8))
+
+-- what is left is 8, in two parts of four cases each, as many as `omega` takes apart
+past-three : (r : ℕ) → r ≢ 0 → r ≢ 1 → r ≢ 2 → r ≢ 3 → 4 ≤ r
+past-three r e₀ e₁ e₂ e₃ = omega arith
+
+eight : (r : ℕ) → 4 ≤ r → r ≤ 8 → r ≢ 4 → r ≢ 5 → r ≢ 6 → r ≢ 7 → r ≡ 8
+eight r low high e₄ e₅ e₆ e₇ = omega arith
+
+returns-9 : tie.Need-returns-9
+unfolding choose
+returns-9 c =
     let r = c .before .args .checks in
-    differences-zero (getD table r []) (tabulate 8 (λ w. choose r (suc w))) (eqb-true _ 0 (everyTo-at 9 right rights r (omega arith)))
+    let late = c .match .rest in
+    let early = late .0 .0 .0 .0 in
+    let low = past-three r (early .0 .0 .0 .1) (early .0 .0 .1) (early .0 .1) (early .1) in
+    sym (ap counts (eight r low (c .before .pre) (late .0 .0 .0 .1) (late .0 .0 .1) (late .0 .1) (late .1)))
 
 pub choices-spec : {M : Type 1} → statement M
-choices-spec = tie.close (tie.spec mul-result array-copy-out-result returns)
+choices-spec = tie.close (tie.spec returns returns-2 returns-3 returns-4 returns-5 returns-6 returns-7 returns-8 returns-9)
