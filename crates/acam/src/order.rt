@@ -1,6 +1,6 @@
 // The order of the columns, fewest ones first, and the ones of a column.
 ghost use mathlib.Core.Path.{_≡_};
-ghost use Prim.Native.Nat.{suc, _^_, _≤_};
+ghost use Prim.Native.Nat.{suc, _≤_};
 ghost use Rattle.parity.specs.Lists.{tabulate};
 ghost use Rattle.parity.specs.Matrix.{weight, columnOrder};
 ghost use Rattle.acam.specs.Matrices.{choose};
