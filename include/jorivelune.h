@@ -84,6 +84,17 @@ uint8_t jorivelune_step(size_t record[JORIVELUNE_WORDS], struct jorivelune_shape
                         uint8_t *totals, size_t totals_length,
                         uint8_t *matches, size_t matches_length);
 
+// At most so many steps of the open cycle, one after the other, up to its end. Any number may be given. The questions are those of a
+// step (1 to 5, 6, 9), asked once, also where the number is 0; the match bytes are those of the last step that is made, and stay as they
+// were where none is.
+uint8_t jorivelune_steps(size_t record[JORIVELUNE_WORDS], struct jorivelune_shape shape, size_t most,
+                         const uint8_t *cells, size_t cells_length,
+                         const uint8_t *lines, size_t lines_length,
+                         uint8_t *counters, size_t counters_length,
+                         uint8_t *flags, size_t flags_length,
+                         uint8_t *totals, size_t totals_length,
+                         uint8_t *matches, size_t matches_length);
+
 // A start and all the steps of a cycle.
 uint8_t jorivelune_run(size_t record[JORIVELUNE_WORDS], struct jorivelune_shape shape, size_t skip,
                        const uint8_t *cells, size_t cells_length,

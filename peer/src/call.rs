@@ -107,6 +107,13 @@ calls! {
         /// The match bytes.
         matches: B,
     },
+    /// Make the next steps of the cycle, up to its end.
+    Steps {
+        /// How many at most.
+        most: usize,
+        /// The match bytes.
+        matches: B,
+    },
     /// Run one whole cycle.
     Run {
         /// The number of low digits that it skips.
@@ -139,9 +146,13 @@ impl Name {
     /// Whether the call is given the record and hands it back.
     pub fn has_record(self) -> bool {
         match self {
-            Name::Clear | Name::Program | Name::Commit | Name::Start | Name::Step | Name::Run => {
-                true
-            }
+            Name::Clear
+            | Name::Program
+            | Name::Commit
+            | Name::Start
+            | Name::Step
+            | Name::Steps
+            | Name::Run => true,
             Name::Ask
             | Name::Drift
             | Name::Line
@@ -178,6 +189,10 @@ impl<B> Call<B> {
             },
             Call::Start { skip } => Call::Start { skip },
             Call::Step { matches } => Call::Step {
+                matches: change(matches),
+            },
+            Call::Steps { most, matches } => Call::Steps {
+                most,
                 matches: change(matches),
             },
             Call::Run { skip, matches } => Call::Run {
@@ -255,6 +270,9 @@ pub fn make<S: Bytes, B: Bytes>(
         Call::Commit { row, finished } => keep(array::commit(shape, cells, *row, finished, now)),
         Call::Start { skip } => keep(cycle::start(shape, *skip, state.lend(), now)),
         Call::Step { matches } => keep(cycle::step(shape, state.lend(), matches, now)),
+        Call::Steps { most, matches } => {
+            keep(cycle::steps(shape, *most, state.lend(), matches, now))
+        }
         Call::Run { skip, matches } => keep(cycle::run(shape, *skip, state.lend(), matches, now)),
         Call::Ask {
             row,

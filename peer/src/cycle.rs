@@ -1,4 +1,5 @@
-//! The detection cycle: its record, start, step, and one whole cycle.
+//! The detection cycle: its record, start, step, several steps, and one whole
+//! cycle.
 //!
 //! A cycle opens with the all-zero vector. Every cell answers 1 to it, so the
 //! rows that do not match are those with a dead line: they are flagged, and
@@ -217,13 +218,16 @@ pub fn start(
 ) -> (Cycle, Result<(), Refusal>) {
     match ask_start(shape, skip, &state) {
         Err(refusal) => (cycle, Err(refusal)),
-        Ok(()) => {
-            state.counters.fill(0);
-            state.flags.fill(0);
-            state.totals.fill(0);
-            (Cycle::open(skip), Ok(()))
-        }
+        Ok(()) => (open(skip, state), Ok(())),
     }
+}
+
+/// What an accepted start does; gives the record that it leaves.
+fn open(skip: usize, state: State<&mut [u8]>) -> Cycle {
+    state.counters.fill(0);
+    state.flags.fill(0);
+    state.totals.fill(0);
+    Cycle::open(skip)
 }
 
 fn ask_start(shape: Shape, skip: usize, state: &State<&mut [u8]>) -> Result<(), Refusal> {
@@ -248,18 +252,55 @@ pub fn step(
     matches: &mut [u8],
     cycle: Cycle,
 ) -> (Cycle, Result<(), Refusal>) {
-    let layout = match ask_step(shape, &state, matches, &cycle) {
-        Err(refusal) => return (cycle, Err(refusal)),
-        Ok(layout) => layout,
-    };
-    look_up(&layout, &cycle, state.cells, state.lines, matches);
+    match ask_step(shape, &state, matches, &cycle) {
+        Err(refusal) => (cycle, Err(refusal)),
+        Ok(layout) => (take_step(&layout, state, matches, cycle), Ok(())),
+    }
+}
+
+/// Makes at most so many steps, one after the other, and none after the end of
+/// the cycle. The match bytes are those of the last step, and stay where none is
+/// made. The questions are those of a step, whatever the number.
+pub fn steps(
+    shape: Shape,
+    most: usize,
+    state: State<&mut [u8]>,
+    matches: &mut [u8],
+    cycle: Cycle,
+) -> (Cycle, Result<(), Refusal>) {
+    match ask_step(shape, &state, matches, &cycle) {
+        Err(refusal) => (cycle, Err(refusal)),
+        Ok(layout) => (take_steps(&layout, most, state, matches, cycle), Ok(())),
+    }
+}
+
+/// What accepted steps do, at most so many; gives the record that they leave.
+fn take_steps(
+    layout: &Layout,
+    most: usize,
+    mut state: State<&mut [u8]>,
+    matches: &mut [u8],
+    cycle: Cycle,
+) -> Cycle {
+    let mut now = cycle;
+    let mut left = most;
+    while left > 0 && now.phase == Phase::Open {
+        now = take_step(layout, state.lend(), matches, now);
+        left -= 1;
+    }
+    now
+}
+
+/// What an accepted step does; gives the record that it leaves.
+fn take_step(layout: &Layout, state: State<&mut [u8]>, matches: &mut [u8], cycle: Cycle) -> Cycle {
+    look_up(layout, &cycle, state.cells, state.lines, matches);
     if cycle.is_opening() {
         let unmatched = matches.iter().map(|&matched| matched == 0);
         raise_flags(unmatched, state.flags, state.totals);
     } else {
-        count_vector(&layout, &cycle, state, matches);
+        count_vector(layout, &cycle, state, matches);
     }
-    (cycle.next(&layout), Ok(()))
+    cycle.next(layout)
 }
 
 fn ask_step(
@@ -292,14 +333,14 @@ pub fn run(
     matches: &mut [u8],
     cycle: Cycle,
 ) -> (Cycle, Result<(), Refusal>) {
-    if let Err(refusal) = ask_run(shape, skip, &state, matches) {
-        return (cycle, Err(refusal));
+    match ask_run(shape, skip, &state, matches) {
+        Err(refusal) => (cycle, Err(refusal)),
+        Ok(layout) => {
+            let opened = open(skip, state.lend());
+            let ended = take_steps(&layout, usize::MAX, state, matches, opened);
+            (ended, Ok(()))
+        }
     }
-    let (mut now, mut answer) = start(shape, skip, state.lend(), cycle);
-    while answer.is_ok() && now.phase == Phase::Open {
-        (now, answer) = step(shape, state.lend(), matches, now);
-    }
-    (now, answer)
 }
 
 /// Question 15 comes before question 6.

@@ -13,7 +13,7 @@
 //! - [`comparator`]: the rule of a match line;
 //! - [`state`]: the lent state;
 //! - [`mod@panel`]: the totals of flagged rows, and the panel call;
-//! - [`cycle`]: the cycle record, start, step, and one whole cycle;
+//! - [`cycle`]: the cycle record, start, step, several steps, and one whole cycle;
 //! - [`mod@array`]: the other calls on an array;
 //! - [`call`]: all calls as one enum, and the making of one;
 //! - [`list`]: lists of calls on one array;
@@ -40,7 +40,7 @@ pub use array::{ask, clear, commit, drift, first_match, line, lookup, program, r
 pub use call::{make, Answer, Call, Name};
 pub use code::{encode, is_codeword};
 pub use comparator::match_byte;
-pub use cycle::{run, start, step, Cycle, Phase};
+pub use cycle::{run, start, step, steps, Cycle, Phase};
 pub use job::job;
 pub use list::Array;
 pub use panel::{panel, Panel};

@@ -41,4 +41,9 @@ impl Array {
     pub fn step(&mut self, matches: &mut [u8]) -> Answer {
         self.make(&mut Call::Step { matches })
     }
+
+    /// Makes at most so many steps of the cycle.
+    pub fn steps(&mut self, most: usize, matches: &mut [u8]) -> Answer {
+        self.make(&mut Call::Steps { most, matches })
+    }
 }

@@ -13,6 +13,7 @@ use peer::testing::rows::{any_row, sound_row};
 use peer::testing::settings;
 use peer::testing::shapes::{any_shape, small_shape};
 use peer::testing::skips::Skips;
+use peer::testing::steps::{left, some_most, Steps};
 use peer::testing::tally::Tally;
 use peer::{match_byte, Answer, Array, Cycle, Name, Shape, State};
 
@@ -64,6 +65,7 @@ struct Given {
     levels: Vec<u8>,
     finished: Vec<u8>,
     skip: usize,
+    most: usize,
 }
 
 impl Draw for Given {
@@ -101,6 +103,10 @@ impl Draw for Given {
         self.skip
     }
 
+    fn most(&mut self) -> usize {
+        self.most
+    }
+
     fn buffer(&mut self, own: Own) -> Vec<u8> {
         self.own[own as usize].clone()
     }
@@ -115,14 +121,14 @@ fn some_state(random: &mut Random, spec: Option<&Spec>, sizes: &Sizes) -> State<
     State {
         cells,
         lines: some_lines(random, sizes.rows),
-        counters: some_bytes(random, sizes.rows),
+        counters: some_counters(random, sizes.rows),
         flags: some_marks(random, sizes.rows),
         totals: some_marks(random, sizes.blocks),
     }
 }
 
-/// Arguments mostly in range.
-fn given(random: &mut Random, shape: Shape, sizes: &Sizes) -> Given {
+/// Arguments mostly in range, for an array with the record.
+fn given(random: &mut Random, shape: Shape, sizes: &Sizes, cycle: Cycle) -> Given {
     let own = [sizes.rows, sizes.width, sizes.columns].map(|wanted| some_bytes(random, wanted));
     let length = some_length(random, sizes.width);
     let bound = match random.below(10) {
@@ -147,6 +153,7 @@ fn given(random: &mut Random, shape: Shape, sizes: &Sizes) -> Given {
         levels: random.levels(bound, length),
         finished: some_finished(random, shape, sizes),
         skip: some_number(random, sizes.digits),
+        most: some_most(random, left(shape, cycle), ROW_STEPS / sizes.rows),
     }
 }
 
@@ -154,6 +161,13 @@ fn given(random: &mut Random, shape: Shape, sizes: &Sizes) -> Given {
 fn some_lines(random: &mut Random, wanted: usize) -> Vec<u8> {
     let length = some_length(random, wanted);
     any_lines(random, length)
+}
+
+/// Mostly as many counters as there are rows: any bytes, or below every radix.
+fn some_counters(random: &mut Random, wanted: usize) -> Vec<u8> {
+    let length = some_length(random, wanted);
+    let bound = random.pick(&[2, 256]);
+    random.levels(bound, length)
 }
 
 /// Mostly as many cells as there are, levels or any bytes.
@@ -228,13 +242,14 @@ fn some_change(random: &mut Random, record: Cycle, sizes: &Sizes) -> Cycle {
     }
 }
 
-/// What the calls were answered, what they did with skipped digits, and what
-/// lines they were lent.
+/// What the calls were answered, what they did with skipped digits, what lines
+/// they were lent, and what was seen of several steps.
 #[derive(Debug, Default)]
 struct Seen {
     tally: Tally,
     skips: Skips,
     lines: Lines,
+    steps: Steps,
 }
 
 /// Makes a call by this build and by the definitions, and compares.
@@ -249,7 +264,7 @@ fn compare(random: &mut Random, shape: Shape, name: Name, seen: &mut Seen) {
         state: some_state(random, spec, &sizes),
         cycle,
     };
-    let mut call = draw::call(name, &mut given(random, shape, &sizes));
+    let mut call = draw::call(name, &mut given(random, shape, &sizes, cycle));
     let before = (ours.clone(), call.clone());
     let (mut plain, mut plain_call) = before.clone();
     let answer = ours.make(&mut call);
@@ -261,8 +276,12 @@ fn compare(random: &mut Random, shape: Shape, name: Name, seen: &mut Seen) {
     assert_eq!((&ours, &call), (&plain, &plain_call), "{name:?} {shape:?}");
     seen.tally.add(name, answer);
     seen.skips.add(name, answer, cycle, ours.cycle);
-    seen.lines.add(name, answer, cycle, &before.0.state.lines);
-    if name == Name::Step {
+    let State {
+        lines, counters, ..
+    } = &before.0.state;
+    seen.lines.add(name, answer, cycle, ours.cycle, lines);
+    seen.steps.add(shape, &call, answer, cycle, counters);
+    if matches!(name, Name::Step | Name::Steps) {
         seen.skips.add_forged(answer, record, cycle);
     }
     if let Answer::Refused(_) = answer {
@@ -274,7 +293,7 @@ fn compare(random: &mut Random, shape: Shape, name: Name, seen: &mut Seen) {
 fn the_calls_do_what_the_definitions_say() {
     let mut random = settings::random(11);
     let mut seen = Seen::default();
-    for turn in 0..2500 {
+    for turn in 0..10_000 {
         let mut shape = any_shape(&mut random);
         if turn % 10 != 0 && shape.layout().is_ok() {
             shape.rows = shape.rows.min(9);
@@ -290,11 +309,15 @@ fn the_calls_do_what_the_definitions_say() {
     seen.tally.assert_complete();
     seen.skips.assert_each(8);
     seen.lines.assert_each(8);
+    seen.steps.assert_each(8);
 }
+
+/// How many rows the steps of one call look at, at most.
+const ROW_STEPS: usize = 5_000;
 
 /// Whether a cycle on the shape looks at too many rows to be run here.
 fn is_long(shape: Shape) -> bool {
-    questions(shape).is_ok_and(|spec| spec.steps(0) * shape.rows > 5_000)
+    questions(shape).is_ok_and(|spec| spec.steps(0) * shape.rows > ROW_STEPS)
 }
 
 /// The rule of a match line on all pairs of a cell and an input: in a row with a

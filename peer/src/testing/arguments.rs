@@ -49,6 +49,14 @@ impl<B> Call<B> {
         }
     }
 
+    /// The largest number of steps.
+    pub fn most_mut(&mut self) -> Option<&mut usize> {
+        match self {
+            Call::Steps { most, .. } => Some(most),
+            _ => None,
+        }
+    }
+
     /// The levels of a rule, the cells of a finished row, or the inputs of a lookup.
     pub fn levels_mut(&mut self) -> Option<&mut Vec<u8>> {
         match self {

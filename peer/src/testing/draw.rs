@@ -29,6 +29,8 @@ pub trait Draw {
     fn inputs(&mut self) -> Vec<u8>;
     /// The number of low digits that a cycle skips.
     fn skip(&mut self) -> usize;
+    /// The largest number of steps.
+    fn most(&mut self) -> usize;
     /// A buffer of the call's own.
     fn buffer(&mut self, own: Own) -> Self::Buffer;
 }
@@ -68,6 +70,10 @@ pub fn call<D: Draw>(name: Name, draw: &mut D) -> Call<D::Buffer> {
         },
         Name::Start => Call::Start { skip: draw.skip() },
         Name::Step => Call::Step {
+            matches: draw.buffer(Own::Matches),
+        },
+        Name::Steps => Call::Steps {
+            most: draw.most(),
             matches: draw.buffer(Own::Matches),
         },
         Name::Run => Call::Run {
@@ -132,6 +138,11 @@ impl Draw for Right<'_> {
 
     fn skip(&mut self) -> usize {
         self.random.below(self.layout.digits())
+    }
+
+    /// A few, or none.
+    fn most(&mut self) -> usize {
+        self.random.below(10)
     }
 
     fn buffer(&mut self, own: Own) -> Own {

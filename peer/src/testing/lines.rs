@@ -48,11 +48,12 @@ pub const EXAMPLE: Example = Example {
 };
 
 /// The calls that are lent the lines.
-pub const WITH_LINES: [Name; 6] = [
+pub const WITH_LINES: [Name; 7] = [
     Name::Clear,
     Name::Line,
     Name::Lookup,
     Name::Step,
+    Name::Steps,
     Name::Run,
     Name::FirstMatch,
 ];
@@ -143,21 +144,24 @@ impl Kind {
     }
 }
 
-/// The call, whether it is a step that opens a cycle, and its lines.
+/// The call, whether it makes a cycle's opening as a step or as the first of
+/// several, and its lines.
 type Case = (Name, bool, Kind);
 
-/// Three for each call that is lent the lines, and for a step that opens.
-const CASES: usize = 3 * (WITH_LINES.len() + 1);
+/// Three for each call that is lent the lines, and for the two that may open.
+const CASES: usize = 3 * (WITH_LINES.len() + 2);
 
 /// How often each case was seen.
 #[derive(Debug, Default)]
 pub struct Lines(Counts<Case>);
 
 impl Lines {
-    /// Counts a call that was taken, by the record and the lines before it.
-    pub fn add(&mut self, name: Name, answer: Answer, before: Cycle, lines: &[u8]) {
+    /// Counts a call that was taken, by the records before and after it and the
+    /// lines before it.
+    pub fn add(&mut self, name: Name, answer: Answer, before: Cycle, after: Cycle, lines: &[u8]) {
         if answer.number() == 0 && WITH_LINES.contains(&name) {
-            let opens = name == Name::Step && before.count == 0;
+            let steps = matches!(name, Name::Step | Name::Steps);
+            let opens = steps && before.count == 0 && after.count > 0;
             self.0.add((name, opens, Kind::of(lines)));
         }
     }

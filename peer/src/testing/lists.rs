@@ -9,9 +9,10 @@ use crate::testing::random::Random;
 use crate::testing::rows::{any_row, finished_row, sound_row};
 use crate::testing::shapes::layout;
 use crate::testing::skips::too_many;
+use crate::testing::steps::some_most;
 
 /// The calls of a list, each as often as its share.
-const SHARES: [Name; 17] = [
+const SHARES: [Name; 19] = [
     Name::Clear,
     Name::Program,
     Name::Program,
@@ -29,6 +30,8 @@ const SHARES: [Name; 17] = [
     Name::Step,
     Name::Step,
     Name::Step,
+    Name::Steps,
+    Name::Steps,
 ];
 
 /// A list of so many pieces: a piece is one call with arbitrary arguments, a
@@ -134,20 +137,42 @@ fn right_line(random: &mut Random, row: usize) -> Call<Vec<u8>> {
     }
 }
 
-/// Starts a cycle that skips any number of digits, and makes all its steps; now
-/// and then another call comes in between, or one step more follows.
+/// Starts a cycle that skips any number of digits, and makes all its steps, singly
+/// or some of them by calls of several; now and then another call comes in between,
+/// or one step more follows.
 fn push_cycle(random: &mut Random, layout: &Layout, calls: &mut Vec<Call<Vec<u8>>>) {
     let skip = random.below(layout.digits());
     calls.push(Call::Start { skip });
     let disturbed = random.one_in(3);
+    let several = random.one_in(2);
     let steps = layout.steps(skip);
-    for _ in 0..steps + random.below(2) {
-        calls.push(Call::Step {
-            matches: random.bytes(layout.rows()),
-        });
-        if disturbed && random.one_in(steps) {
+    let mut left = steps + random.below(2);
+    while left > 0 {
+        let made = push_steps(random, layout, left, several, calls);
+        left = left.saturating_sub(made);
+        if disturbed && random.below(steps) < made {
             push_disturbance(random, layout, calls);
         }
+    }
+}
+
+/// A single step of a cycle with so many to come, or now and then, where it may be,
+/// a call of several. Gives how many it asks for.
+fn push_steps(
+    random: &mut Random,
+    layout: &Layout,
+    left: usize,
+    several: bool,
+    calls: &mut Vec<Call<Vec<u8>>>,
+) -> usize {
+    let matches = random.bytes(layout.rows());
+    if several && random.one_in(3) {
+        let most = some_most(random, left, usize::MAX);
+        calls.push(Call::Steps { most, matches });
+        most
+    } else {
+        calls.push(Call::Step { matches });
+        1
     }
 }
 
@@ -236,6 +261,10 @@ impl Draw for Mostly<'_> {
 
     fn skip(&mut self) -> usize {
         some_number(self.random, self.layout.digits())
+    }
+
+    fn most(&mut self) -> usize {
+        some_most(self.random, self.layout.steps(0), usize::MAX)
     }
 
     fn buffer(&mut self, own: Own) -> Vec<u8> {

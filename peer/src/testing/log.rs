@@ -78,6 +78,7 @@ impl Log {
             Call::Ask { .. } | Call::Lookup { .. } => {}
             Call::Start { skip } => self.start(*skip),
             Call::Step { matches } => self.step(matches.len()),
+            Call::Steps { most, matches } => self.steps(*most, matches.len()),
             Call::Run { .. }
             | Call::Panel
             | Call::FirstMatch { .. }
@@ -145,11 +146,24 @@ impl Log {
     fn step(&mut self, match_bytes: usize) {
         if self.cycle == LoggedCycle::Open && match_bytes == self.spec.shape.rows {
             self.count += 1;
-            let levels = self.spec.levels / self.spec.shape.radix.pow(self.skip as u32);
-            if self.count == 1 + (levels - 1) * self.spec.weight() {
+            if self.count == self.last_count() {
                 self.cycle = LoggedCycle::Ended;
             }
         }
+    }
+
+    /// So many steps. No cycle has more than its last count says, so that those
+    /// above it change nothing.
+    fn steps(&mut self, most: usize, match_bytes: usize) {
+        for _ in 0..most.min(self.last_count()) {
+            self.step(match_bytes);
+        }
+    }
+
+    /// The count at which the cycle is ended.
+    fn last_count(&self) -> usize {
+        let levels = self.spec.levels / self.spec.shape.radix.pow(self.skip as u32);
+        1 + (levels - 1) * self.spec.weight()
     }
 
     /// The rows in both forms, with their lines.

@@ -25,6 +25,8 @@
 //!   beside that of an opening, and what was seen of dead lines;
 //! - [`skips`]: an example of coarse cycles, numbers of digits that no start
 //!   takes, and what was seen of skipped digits;
+//! - [`steps`]: an example of calls of several steps, numbers of steps, and what
+//!   was seen of them;
 //! - [`log`], [`verdict`]: what a list did, and what a flag says after a cycle;
 //! - [`naive`]: the definitions to compare with;
 //! - [`tally`], [`counts`], [`mod@print`], [`program`]: what was seen, how it is
@@ -52,5 +54,6 @@ pub mod rows;
 pub mod settings;
 pub mod shapes;
 pub mod skips;
+pub mod steps;
 pub mod tally;
 pub mod verdict;

@@ -49,7 +49,14 @@ pub const EXAMPLE: Example = Example {
 };
 
 /// The calls that are lent the totals.
-pub const WITH_TOTALS: [Name; 5] = [Name::Clear, Name::Start, Name::Step, Name::Run, Name::Panel];
+pub const WITH_TOTALS: [Name; 6] = [
+    Name::Clear,
+    Name::Start,
+    Name::Step,
+    Name::Steps,
+    Name::Run,
+    Name::Panel,
+];
 
 /// Any flags and totals, many of them 0.
 pub fn foreign(random: &mut Random, layout: &Layout) -> (Vec<u8>, Vec<u8>) {

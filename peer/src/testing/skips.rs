@@ -59,14 +59,16 @@ enum Case {
     EndedCoarse(Name),
     /// It was refused with 15, and a cycle was open.
     RefusedOpen(Name),
-    /// It was a step that took a record with another z than that of its cycle.
+    /// It was one step or several that took a record with another z than that of
+    /// its cycle.
     ForgedTaken,
-    /// It was a step that refused one.
+    /// It was one step or several that refused one.
     ForgedRefused,
 }
 
-/// Each of the first three for two calls, and each of the last two.
-const CASES: usize = 8;
+/// Each of the first two for three calls, the third for two, and each of the last
+/// two.
+const CASES: usize = 10;
 
 /// How often each case was seen.
 #[derive(Debug, Default)]
@@ -75,7 +77,8 @@ pub struct Skips(Counts<Case>);
 impl Skips {
     /// Counts a call, by its answer and the record before and after it.
     pub fn add(&mut self, name: Name, answer: Answer, before: Cycle, after: Cycle) {
-        let ends = matches!(name, Name::Step | Name::Run) && after.phase == Phase::Complete;
+        let steps = matches!(name, Name::Step | Name::Steps | Name::Run);
+        let ends = steps && after.phase == Phase::Complete;
         match answer {
             Answer::Done if ends && after.skip == 0 => self.0.add(Case::EndedFine(name)),
             Answer::Done if ends => self.0.add(Case::EndedCoarse(name)),
@@ -86,8 +89,8 @@ impl Skips {
         }
     }
 
-    /// Counts a step with a record that was made from another one, where both
-    /// are open and z alone is changed.
+    /// Counts one step or several with a record that was made from another one,
+    /// where both are open and z alone is changed.
     pub fn add_forged(&mut self, answer: Answer, before: Cycle, forged: Cycle) {
         let skip = before.skip;
         let z_alone = forged.skip != skip && Cycle { skip, ..forged } == before;

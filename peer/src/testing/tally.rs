@@ -21,7 +21,7 @@ fn own_questions(name: Name) -> &'static [u8] {
         Name::Line => &[7, 16],
         Name::Lookup | Name::FirstMatch => &[8],
         Name::Start | Name::Run => &[15],
-        Name::Step => &[9],
+        Name::Step | Name::Steps => &[9],
         Name::Sound | Name::Read => &[7],
     }
 }

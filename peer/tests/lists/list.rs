@@ -11,8 +11,9 @@ use peer::testing::panels::Cases;
 use peer::testing::random::Random;
 use peer::testing::records::{cycle_of, forged, words_of, Words};
 use peer::testing::skips::Skips;
+use peer::testing::steps::{left, some_most, Steps};
 use peer::testing::tally::Tally;
-use peer::{Answer, Call, Cycle, Layout, Name, Phase, Shape};
+use peer::{Answer, Call, Cycle, Layout, Name, Phase, Shape, State};
 
 use crate::drawn::Drawn;
 use crate::event::{Event, Events};
@@ -24,23 +25,36 @@ pub struct Seen {
     pub tally: Tally,
     /// The calls on shapes that catch so many changed cells.
     pub by_errors: [usize; 4],
-    /// Cycles that ended by a step.
+    /// Cycles that ended by a single step.
     pub ended: usize,
     /// Those from their start on without a disturbance: of all digits, and coarse
     /// ones.
     pub whole: [usize; 2],
-    /// Forged records that a step refused, and such with a phase of no name.
+    /// Forged records that a step or several refused, and such with a phase of no
+    /// name.
     pub forged: usize,
     pub nameless: usize,
     /// What was asked for and committed.
     pub asks: Asks,
     /// What was done with skipped digits.
     pub skips: Skips,
+    /// What calls of several steps there were.
+    pub steps: Steps,
     /// What lines the calls were lent.
     pub lines: Lines,
     /// What the panel was told.
     pub panels: Cases,
 }
+
+/// The record, the lines and the counters before a call.
+struct Before {
+    cycle: Cycle,
+    lines: Guarded,
+    counters: Guarded,
+}
+
+/// How many rows the steps of one call look at, at most.
+pub const ROW_STEPS: usize = 100_000;
 
 pub struct List<'a> {
     pub random: Random,
@@ -108,7 +122,11 @@ impl<'a> List<'a> {
             random: &mut self.random,
             layout: &self.layout,
         };
-        let call = draw::call(name, &mut right);
+        let mut call = draw::call(name, &mut right);
+        if let Call::Steps { most, .. } = &mut call {
+            let left = left(self.shape, self.record());
+            *most = some_most(&mut self.random, left, ROW_STEPS / self.shape.rows);
+        }
         self.lent(call)
     }
 
@@ -123,14 +141,10 @@ impl<'a> List<'a> {
 
     /// Makes a call in both builds and compares.
     pub fn make(&mut self, drawn: Drawn) -> Answer {
-        let name = drawn.call.name();
-        let before = self.record();
-        let mut lines = self.ours.lent.state.lines.clone();
-        lines.set_length(drawn.lengths.state.lines);
+        let before = self.before(&drawn);
         let (proved, arguments) = self.proved.proved(&drawn);
         let ours = self.ours.ours(&drawn);
         let unwritten = arguments == drawn.call.clone().map(|_| ());
-        let made = self.ours.left(&drawn);
         self.events.note(Event::Call(drawn.clone()));
         if proved != Some(ours) {
             self.fail(&format!("the answers {proved:?} and {ours:?}"));
@@ -139,20 +153,50 @@ impl<'a> List<'a> {
             self.fail("the arguments");
         }
         self.compare();
+        self.count(&drawn, ours, before);
+        ours
+    }
+
+    /// What a call finds, with the lengths that it is lent.
+    fn before(&self, drawn: &Drawn) -> Before {
+        let State {
+            lines, counters, ..
+        } = &self.ours.lent.state;
+        let lent = |buffer: &Guarded, length| {
+            let mut part = buffer.clone();
+            part.set_length(length);
+            part
+        };
+        Before {
+            cycle: self.record(),
+            lines: lent(lines, drawn.lengths.state.lines),
+            counters: lent(counters, drawn.lengths.state.counters),
+        }
+    }
+
+    /// Counts a call that was made.
+    fn count(&mut self, drawn: &Drawn, answer: Answer, before: Before) {
+        let (name, shape) = (drawn.call.name(), drawn.shape);
+        let made = self.ours.left(drawn);
         let after = self.record();
-        self.seen.tally.add(name, ours);
-        self.seen.asks.add(drawn.shape, &made, ours, before);
-        self.seen.skips.add(name, ours, before, after);
-        self.seen.lines.add(name, ours, before, &lines);
+        let Before {
+            cycle,
+            lines,
+            counters,
+        } = before;
+        self.seen.tally.add(name, answer);
+        self.seen.asks.add(shape, &made, answer, cycle);
+        self.seen.skips.add(name, answer, cycle, after);
+        self.seen.lines.add(name, answer, cycle, after, &lines);
+        self.seen.steps.add(shape, &made, answer, cycle, &counters);
         self.seen.by_errors[self.shape.errors] += 1;
-        if name == Name::Step && ours == Answer::Done && after.phase == Phase::Complete {
+        if name == Name::Step && answer == Answer::Done && after.phase == Phase::Complete {
             self.seen.ended += 1;
         }
-        if let Answer::Panel(panel) = ours {
+        if let Answer::Panel(panel) = answer {
             let totals = &self.ours.lent.state.totals;
             self.seen.panels.add(self.shape.rows, totals, panel);
         }
-        ours
     }
 
     fn compare(&self) {

@@ -14,6 +14,7 @@ mod pieces;
 #[path = "../proved_calls/mod.rs"]
 mod proved_calls;
 mod side;
+mod steps;
 
 use list::{List, Seen};
 use peer::testing::panels::EXAMPLE;
@@ -46,10 +47,10 @@ fn random_lists_leave_the_same() {
             seed = seed.wrapping_add(1);
         }
     };
-    make(small, small_shape, 13, usize::MAX);
-    make(flat, flat_shape, 13, 300);
-    make(limit, limit_shape, 9, 10);
-    make(block, block_shape, 13, 100);
+    make(small, small_shape, 16, usize::MAX);
+    make(flat, flat_shape, 16, 300);
+    make(limit, limit_shape, 11, 10);
+    make(block, block_shape, 16, 100);
     println!("{} calls: {seen:?}", seen.tally.calls());
     assert!(seen.tally.calls() >= 100_000);
     assert!(seen.by_errors[1..].iter().all(|&calls| calls >= 10_000));
@@ -59,6 +60,7 @@ fn random_lists_leave_the_same() {
     seen.tally.assert_complete();
     seen.asks.assert_each(80);
     seen.skips.assert_each(80);
+    seen.steps.assert_each(25);
     seen.lines.assert_each(80);
     seen.panels.assert_each(1);
 }

@@ -7,20 +7,21 @@ use peer::testing::panels::{foreign, WITH_TOTALS};
 use peer::testing::records::{forged, words_of};
 use peer::testing::rows::any_row;
 use peer::testing::skips::too_many;
+use peer::testing::steps::left;
 use peer::{Answer, Call, Cycle, Name, Phase, Shape};
 
 use crate::drawn::Drawn;
-use crate::list::List;
+use crate::list::{List, ROW_STEPS};
 
 /// The places of the buffers of the state among all buffers.
-const CELLS: usize = 0;
+pub const CELLS: usize = 0;
 const LINES: usize = 1;
-const COUNTERS: usize = 2;
+pub const COUNTERS: usize = 2;
 const FLAGS: usize = 3;
 const TOTALS: usize = 4;
 
-/// Calls that come between an ask and its commit.
-const BETWEEN: [Name; 7] = [
+/// Calls that come between an ask and its commit, and into a cycle.
+const BETWEEN: [Name; 8] = [
     Name::Drift,
     Name::Line,
     Name::Lookup,
@@ -28,31 +29,34 @@ const BETWEEN: [Name; 7] = [
     Name::Start,
     Name::Step,
     Name::Step,
+    Name::Steps,
 ];
 
 /// Phases without a name.
 const NAMELESS: [usize; 9] = [3, 4, 255, 256, 257, 258, 1 << 32, (1 << 32) + 1, usize::MAX];
 
-/// Whether a cycle on the shape looks at too many rows to be run often.
-fn is_long(shape: Shape, skip: usize) -> bool {
-    shape
-        .layout()
-        .is_ok_and(|layout| skip < layout.digits() && layout.steps(skip) * layout.rows() > 100_000)
+/// Whether so many steps of a cycle on the shape, or those that it has left by its
+/// record, look at too many rows to be made often.
+fn is_long(shape: Shape, cycle: Cycle, most: usize) -> bool {
+    left(shape, cycle).min(most) > ROW_STEPS / shape.rows.max(1)
 }
 
 impl List<'_> {
     /// A call with some things wrong in it, or none.
-    fn any(&mut self, name: Name) -> Drawn {
+    pub fn any(&mut self, name: Name) -> Drawn {
         let mut drawn = self.right(name);
         if let Call::Commit { finished, .. } = &mut drawn.call {
             *finished = self.any_row();
         }
         let room = self.ours.lent.each().map(|buffer| buffer.room());
         drawn.spoil(&mut self.random, &self.layout, room);
-        if let Call::Run { skip, .. } = drawn.call {
-            if is_long(drawn.shape, skip) {
-                drawn.call = Call::Start { skip };
+        let (shape, record) = (drawn.shape, self.record());
+        match &mut drawn.call {
+            Call::Run { skip, .. } if is_long(shape, Cycle::open(*skip), usize::MAX) => {
+                drawn.call = Call::Start { skip: *skip };
             }
+            Call::Steps { most, .. } if is_long(shape, record, *most) => *most %= 10,
+            _ => {}
         }
         drawn
     }
@@ -81,9 +85,7 @@ impl List<'_> {
         let asked_for = *ask.call.row_mut().expect("a call on a row");
         self.make(ask.clone());
         for _ in 0..self.random.below(4) {
-            let name = self.random.pick(&BETWEEN);
-            let call = self.right(name);
-            self.make(call);
+            self.call_between();
         }
         let other = self.random.below(self.shape.rows);
         let row = self.random.pick(&[asked_for, other]);
@@ -93,6 +95,13 @@ impl List<'_> {
         if self.random.one_in(2) {
             self.make(ask);
         }
+    }
+
+    /// A call that comes between two others, with nothing wrong in it.
+    pub fn call_between(&mut self) {
+        let name = self.random.pick(&BETWEEN);
+        let call = self.right(name);
+        self.make(call);
     }
 
     /// A row is programmed or committed, a few of its cells drift, and it is looked
@@ -139,7 +148,8 @@ impl List<'_> {
         self.write(LINES, 0, lines);
     }
 
-    /// A step with a forged record; the true one is put back after a refusal.
+    /// One step or several with a forged record; the true one is put back after a
+    /// refusal.
     fn forged_step(&mut self) {
         let (words, before) = (self.ours.words, self.record());
         let mut changed = words_of(forged(&mut self.random, before));
@@ -150,7 +160,8 @@ impl List<'_> {
         if self.random.one_in(4) {
             self.one_call();
         }
-        let step = self.right(Name::Step);
+        let name = self.random.pick(&[Name::Step, Name::Steps]);
+        let step = self.right(name);
         if self.make(step) == Answer::Refused(9) {
             self.seen.forged += 1;
             self.seen.nameless += usize::from(self.ours.words[0] > 2);
@@ -158,13 +169,14 @@ impl List<'_> {
         }
     }
 
-    /// A step with another z in the record. Where it is taken, the cycle goes on
-    /// with that z; else the true record is put back.
+    /// One step or several with another z in the record. Where they are taken, the
+    /// cycle goes on with that z; else the true record is put back.
     pub fn step_with_skip(&mut self, skip: usize) -> Answer {
         let (words, before) = (self.ours.words, self.record());
         let changed = Cycle { skip, ..before };
         self.put(words_of(changed));
-        let step = self.right(Name::Step);
+        let name = self.random.pick(&[Name::Step, Name::Steps]);
+        let step = self.right(name);
         let answer = self.make(step);
         self.seen.skips.add_forged(answer, before, changed);
         if answer != Answer::Done {
@@ -236,7 +248,7 @@ impl List<'_> {
     }
 
     /// A start or a whole cycle with so many digits to skip.
-    fn skipping(&mut self, name: Name, skip: usize) -> Drawn {
+    pub fn skipping(&mut self, name: Name, skip: usize) -> Drawn {
         let mut drawn = self.right(name);
         *drawn.call.skip_mut().expect("a call that skips") = skip;
         drawn
@@ -269,7 +281,7 @@ impl List<'_> {
 
     /// The record of any place of the schedule of any z, its end most often, and
     /// often its opening.
-    fn jump(&mut self) {
+    pub fn jump(&mut self) {
         let schedule = &self.schedules[self.random.below(self.shape.digits)];
         let steps = schedule.steps();
         let count = match self.random.below(6) {
@@ -281,8 +293,8 @@ impl List<'_> {
     }
 
     /// Something else than the next step.
-    fn disturb(&mut self) {
-        match self.random.below(9) {
+    pub fn disturb(&mut self) {
+        match self.random.below(11) {
             0 => self.forged_step(),
             1 | 2 => self.foreign_bytes(),
             3 => self.one_call(),
@@ -292,6 +304,11 @@ impl List<'_> {
             7 => {
                 let ask = self.right(Name::Ask);
                 self.make(ask);
+            }
+            8 => self.several_steps(),
+            9 => {
+                let call = self.any(Name::Steps);
+                self.make(call);
             }
             _ => {
                 let call = self.any(Name::Step);
@@ -357,11 +374,14 @@ impl List<'_> {
     /// So many pieces, with cycles of so many steps at most.
     pub fn pieces(&mut self, pieces: usize, steps: usize) {
         for _ in 0..pieces {
-            match self.random.below(17) {
+            match self.random.below(20) {
                 0..=4 => (0..9).for_each(|_| self.one_call()),
                 5 | 6 => self.changed_row(),
                 14 => self.set_row(),
                 15 | 16 => (0..3).for_each(|_| self.asked_row()),
+                17 => self.mixed_cycle(false),
+                18 => self.mixed_cycle(true),
+                19 => (0..5).for_each(|_| self.steps_from_anywhere()),
                 7 => self.forged_step(),
                 8 => self.foreign_bytes(),
                 9 => {

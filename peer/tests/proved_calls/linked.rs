@@ -107,6 +107,23 @@ linked! {
         matches: *mut u8,
         matches_length: usize,
     ) -> u8;
+    fn jorivelune_steps(
+        words: *mut Words,
+        shape: Numbers,
+        most: usize,
+        cells: *const u8,
+        cells_length: usize,
+        lines: *const u8,
+        lines_length: usize,
+        counters: *mut u8,
+        counters_length: usize,
+        flags: *mut u8,
+        flags_length: usize,
+        totals: *mut u8,
+        totals_length: usize,
+        matches: *mut u8,
+        matches_length: usize,
+    ) -> u8;
     fn jorivelune_run(
         words: *mut Words,
         shape: Numbers,

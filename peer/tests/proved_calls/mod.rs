@@ -28,6 +28,7 @@ pub fn make<S: Bytes, B: Bytes>(
         Call::Commit { row, finished } => commit(words, shape, cells, *row, finished),
         Call::Start { skip } => start(words, shape, *skip, state.lend()),
         Call::Step { matches } => step(words, shape, state.lend(), matches),
+        Call::Steps { most, matches } => steps(words, shape, *most, state.lend(), matches),
         Call::Run { skip, matches } => run(words, shape, *skip, state.lend(), matches),
         Call::Drift { row, column, level } => drift(shape, cells, *row, *column, *level),
         Call::Line { row, byte } => line(shape, lines, *row, *byte),
@@ -166,13 +167,14 @@ pub fn start(words: &mut Words, shape: Shape, skip: usize, state: State<&mut [u8
     }
 }
 
-/// Step and run are given the same, but for what a run skips.
+/// Step, steps and run are given the same, but for the number of steps and for
+/// what a run skips.
 macro_rules! stepping {
-    ($name:ident, $linked:ident $(, $skip:ident)?) => {
+    ($name:ident, $linked:ident $(, $number:ident)?) => {
         pub fn $name(
             words: &mut Words,
             shape: Shape,
-            $($skip: usize,)?
+            $($number: usize,)?
             state: State<&mut [u8]>,
             matches: &mut [u8],
         ) -> u8 {
@@ -180,7 +182,7 @@ macro_rules! stepping {
                 $linked(
                     words,
                     shape.into(),
-                    $($skip,)?
+                    $($number,)?
                     state.cells.as_ptr(),
                     state.cells.len(),
                     state.lines.as_ptr(),
@@ -200,6 +202,7 @@ macro_rules! stepping {
 }
 
 stepping!(step, jorivelune_step);
+stepping!(steps, jorivelune_steps, most);
 stepping!(run, jorivelune_run, skip);
 
 pub fn drift(shape: Shape, cells: &mut [u8], row: usize, column: usize, level: u8) -> u8 {

@@ -38,6 +38,7 @@ pub fn make(array: &mut Array, call: &mut Call<Vec<u8>>) -> Answer {
         }
         Call::Start { skip } => Answer::done(start(array, *skip)),
         Call::Step { matches } => Answer::done(step(array, matches)),
+        Call::Steps { most, matches } => Answer::done(steps(array, *most, matches)),
         Call::Run { skip, matches } => Answer::done(run(array, *skip, matches)),
         Call::Panel => Answer::of(panel(array), Answer::Panel),
         Call::FirstMatch { inputs } => Answer::of(first_match(array, inputs), Answer::Row),
@@ -163,15 +164,30 @@ fn start(array: &mut Array, skip: usize) -> Result<(), u8> {
     Ok(())
 }
 
-/// Question 9 asks for a z whose start and accepted steps leave the record.
 fn step(array: &mut Array, matches: &mut Vec<u8>) -> Result<(), u8> {
+    let (spec, schedule) = ask_step(array, matches)?;
+    take_step(&spec, &schedule, array, matches);
+    Ok(())
+}
+
+/// As many steps as are asked for, or as many as the schedule still has.
+fn steps(array: &mut Array, most: usize, matches: &mut Vec<u8>) -> Result<(), u8> {
+    let (spec, schedule) = ask_step(array, matches)?;
+    let left = schedule.steps() - array.cycle.count;
+    for _ in 0..usize::min(most, left) {
+        take_step(&spec, &schedule, array, matches);
+    }
+    Ok(())
+}
+
+/// Question 9 asks for a z whose start and accepted steps leave the record.
+fn ask_step(array: &Array, matches: &[u8]) -> Result<(Spec, Schedule), u8> {
     let spec = questions(array.shape)?;
     ask_lent(&spec, array, matches)?;
     let schedule = spec
         .schedules()
         .find(|schedule| schedule.awaits(&array.cycle));
-    take_step(&spec, &schedule.ok_or(9)?, array, matches);
-    Ok(())
+    Ok((spec, schedule.ok_or(9)?))
 }
 
 /// A step with a schedule of the shape at hand.
