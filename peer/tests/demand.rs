@@ -50,6 +50,10 @@ struct Seen {
     later: usize,
     /// Verdicts after a commit that was taken, without a clear between.
     committed: usize,
+    /// Verdicts after a cycle that ended by a call of several steps, and such calls
+    /// that left a cycle open which they found before its opening.
+    by_several: usize,
+    begun_by_several: usize,
     /// What was seen of asks and commits.
     asks: Asks,
     refused: usize,
@@ -169,10 +173,14 @@ fn run(shape: Shape, calls: Vec<Call<Vec<u8>>>, seen: &mut Seen) {
         seen.asks.add(shape, &call, answer, before);
         check(&log, &array, seen);
         let ends = was_open && log.cycle == LoggedCycle::Ended;
+        let several = call.name() == Name::Steps;
+        let begun = was_open && before.count == 0 && log.count > 0 && !ends;
+        seen.begun_by_several += usize::from(several && begun);
         match (ends, has_verdict(&log)) {
             (true, true) => {
                 seen.count_cycle(&log, &array);
                 seen.committed += usize::from(committed);
+                seen.by_several += usize::from(several);
             }
             (true, false) => seen.ended_changed += 1,
             (false, true) => seen.later += 1,
@@ -209,6 +217,7 @@ fn demand_3_holds_on_random_lists() {
     assert!(seen.coarse.low > 500 && seen.coarse.more_below > 300);
     assert!(seen.only_marked > 100 && seen.ended_changed > 100);
     assert!(seen.later > 1000 && seen.committed > 1000);
+    assert!(seen.by_several > 1000 && seen.begun_by_several > 500);
     assert!(seen.refused > 1000 && seen.refused_starts > 500);
     seen.asks.assert_each(50);
     assert!(seen.idle > 1000 && seen.open > 1000 && seen.complete > 1000);
