@@ -1,6 +1,6 @@
 // The calls by their header: document 01's rows M1, M2 and M5, a drift, the cycle that finds it,
-// what the panel is told, coarse cycles, a dead match line, a row that is asked for and committed,
-// and refusals. The exit status is the number of the first line of this file that is not as it
+// several steps by one call, what the panel is told, coarse cycles, a dead match line, a row that
+// is asked for and committed, and refusals. The exit status is the number of the first line of this file that is not as it
 // should be, modulo 255 and never 0, or 0.
 #include "jorivelune.h"
 
@@ -85,6 +85,104 @@ static int whole_cycle(void)
     EXPECT(jorivelune_drift(shape, cells, 8, 0, 0, 8) == 8 && cells[0] == 5);
     shape.digits = 0;
     EXPECT(jorivelune_sound(shape, cells, 8, 0, &holds) == 2);
+    return 0;
+}
+
+// What is lent to the steps of an array of two rows.
+struct lent {
+    uint8_t cells[8], lines[2], counters[2], flags[2], totals[1], matches[2];
+};
+
+// At most so many steps with these numbers of cells and match bytes.
+static uint8_t steps_of(size_t record[JORIVELUNE_WORDS], struct jorivelune_shape shape, size_t most,
+                        struct lent *lent, size_t cells, size_t matches)
+{
+    return jorivelune_steps(record, shape, most, lent->cells, cells, lent->lines, 2,
+                            lent->counters, 2, lent->flags, 2, lent->totals, 1,
+                            lent->matches, matches);
+}
+
+// The first row holds 5 2 1 6, the second has drifted to 0 0 4 0, and a cycle is at its opening.
+static int begin_cycle(size_t record[JORIVELUNE_WORDS], struct jorivelune_shape shape,
+                       struct lent *lent)
+{
+    const uint8_t m1[3] = {5, 2, 1};
+
+    memset(lent, 7, sizeof *lent);
+    EXPECT(jorivelune_clear(record, shape, lent->cells, 8, lent->lines, 2, lent->counters, 2,
+                            lent->flags, 2, lent->totals, 1) == 0);
+    EXPECT(jorivelune_program(record, shape, lent->cells, 8, 0, m1, 3) == 0);
+    EXPECT(jorivelune_drift(shape, lent->cells, 8, 1, 2, 4) == 0);
+    EXPECT(jorivelune_start(record, shape, 0, lent->counters, 2, lent->flags, 2,
+                            lent->totals, 1) == 0);
+    return 0;
+}
+
+// Calls of several steps make the cycle that finds the drifted row: an opening, then each column is
+// fed 4, then 2 and 6, then 1, 3, 5 and 7.
+static int several_steps(void)
+{
+    const struct jorivelune_shape shape = {2, 3, 1, 3, 2};
+    size_t record[JORIVELUNE_WORDS] = {0};
+    struct lent lent, before;
+
+    EXPECT(begin_cycle(record, shape, &lent) == 0);
+    before = lent;
+    EXPECT(steps_of(record, shape, 0, &lent, 8, 2) == 0 && record[JORIVELUNE_COUNT] == 0);
+    EXPECT(memcmp(&before, &lent, sizeof lent) == 0 && lent.matches[0] == 7);
+
+    // the opening and three lookups: the match bytes are those of the third column
+    EXPECT(steps_of(record, shape, 4, &lent, 8, 2) == 0 && record[JORIVELUNE_COUNT] == 4);
+    EXPECT(record[JORIVELUNE_DIGIT] == 2 && record[JORIVELUNE_COLUMN] == 3);
+    EXPECT(lent.matches[0] == 0 && lent.matches[1] == 1 && lent.totals[0] == 0);
+    EXPECT(lent.counters[0] == 1 && lent.counters[1] == 1 && lent.flags[1] == 0);
+
+    // a single step between ends the digit and flags the second row
+    EXPECT(jorivelune_step(record, shape, lent.cells, 8, lent.lines, 2, lent.counters, 2,
+                           lent.flags, 2, lent.totals, 1, lent.matches, 2) == 0);
+    EXPECT(record[JORIVELUNE_COUNT] == 5 && lent.counters[0] == 0 && lent.counters[1] == 1);
+    EXPECT(lent.flags[0] == 0 && lent.flags[1] == 1 && lent.totals[0] == 1);
+
+    // a byte of the radix or more in a counter counts by its remainder
+    lent.counters[0] = 254;
+    lent.counters[1] = 255;
+    EXPECT(steps_of(record, shape, 22, &lent, 8, 2) == 0 && record[JORIVELUNE_COUNT] == 27);
+    EXPECT(lent.matches[0] == 1 && lent.counters[0] == 1 && lent.counters[1] == 0);
+
+    // more than are left end the cycle
+    EXPECT(steps_of(record, shape, SIZE_MAX, &lent, 8, 2) == 0);
+    EXPECT(record[JORIVELUNE_PHASE] == 2 && record[JORIVELUNE_COUNT] == 29);
+    EXPECT(lent.matches[0] == 0 && lent.matches[1] == 0 && lent.counters[0] == 0);
+    EXPECT(lent.flags[0] == 0 && lent.flags[1] == 1 && lent.totals[0] == 1);
+    return 0;
+}
+
+// Several steps are refused as a single one is, also where none is asked for: a wrong shape before
+// a wrong length, and then a record with no lookup to come.
+static int refused_steps(void)
+{
+    const struct jorivelune_shape shape = {2, 3, 1, 3, 2}, tall = {2, 3, 1, 3, 4097};
+    const size_t numbers[4] = {0, 1, 30, SIZE_MAX};
+    size_t record[JORIVELUNE_WORDS] = {0}, open[JORIVELUNE_WORDS];
+    struct lent lent, before;
+
+    EXPECT(begin_cycle(record, shape, &lent) == 0);
+    memcpy(open, record, sizeof record);
+    before = lent;
+    for (int i = 0; i < 4; i++) {
+        memcpy(record, open, sizeof record);
+        EXPECT(steps_of(record, shape, numbers[i], &lent, 7, 2) == 6);
+        EXPECT(steps_of(record, shape, numbers[i], &lent, 8, 1) == 6);
+        EXPECT(steps_of(record, tall, numbers[i], &lent, 7, 1) == 5);
+        EXPECT(memcmp(open, record, sizeof record) == 0);
+        record[JORIVELUNE_COUNT] = 1;
+        EXPECT(steps_of(record, shape, numbers[i], &lent, 8, 2) == 9);
+        EXPECT(record[JORIVELUNE_COUNT] == 1 && memcmp(&before, &lent, sizeof lent) == 0);
+        record[JORIVELUNE_PHASE] = 2;
+        record[JORIVELUNE_COUNT] = 29;
+        EXPECT(steps_of(record, shape, numbers[i], &lent, 8, 2) == 9);
+        EXPECT(record[JORIVELUNE_COUNT] == 29 && memcmp(&before, &lent, sizeof lent) == 0);
+    }
     return 0;
 }
 
@@ -317,6 +415,10 @@ static int asked_row(void)
 int main(void)
 {
     int wrong = whole_cycle();
+    if (!wrong)
+        wrong = several_steps();
+    if (!wrong)
+        wrong = refused_steps();
     if (!wrong)
         wrong = coarse_cycles();
     if (!wrong)
