@@ -16,9 +16,22 @@ use crate::{timed_each, Bench, Build, Times, PIECE};
 /// By what its lines are chosen.
 pub const TITLE: &str = "program, ask, commit";
 
+/// The lines of all shapes; the first two have the least to encode for their width.
+pub fn all_lines() {
+    for (radix, digits, errors, width) in [
+        (2, 1, 1, 1),
+        (255, 1, 1, 254),
+        (2, 3, 1, 50),
+        (16, 2, 2, 60),
+        (2, 8, 2, 247),
+    ] {
+        lines(Shape::new(radix, digits, errors, width, 4096));
+    }
+}
+
 /// Times the three and prints a line for each, and for ask and commit what part of
 /// programming's time they take.
-pub fn lines(shape: Shape) {
+fn lines(shape: Shape) {
     let [program, ask, commit] = times(shape);
     for (title, times) in [("program", program), ("ask", ask), ("commit", commit)] {
         print_times(title, shape, shape.rows, shape.rows, times);

@@ -130,6 +130,18 @@ linked! {
         totals: *mut u8,
         matches: *mut u8,
     ) -> u8;
+    fn loops_steps(
+        array: *const Array,
+        record: *mut Words,
+        most: usize,
+        cells: *const u8,
+        lines: *const u8,
+        counters: *mut u8,
+        flags: *mut u8,
+        totals: *mut u8,
+        matches: *mut u8,
+        held: *mut u8,
+    ) -> u8;
     fn loops_lookup(
         array: *const Array,
         cells: *const u8,
@@ -239,6 +251,33 @@ pub fn steps(
         };
         assert_eq!(number, 0);
     }
+}
+
+/// Makes at most so many steps, with the cells of a column held in a buffer for them.
+pub fn held_steps(
+    array: &Array,
+    words: &mut Words,
+    state: State<&mut [u8]>,
+    matches: &mut [u8],
+    held: &mut [u8],
+    most: usize,
+) {
+    assert!(array.fits(&state) && matches.len() == array.rows && held.len() == array.rows);
+    let number = unsafe {
+        loops_steps(
+            array,
+            words,
+            most,
+            state.cells.as_ptr(),
+            state.lines.as_ptr(),
+            state.counters.as_mut_ptr(),
+            state.flags.as_mut_ptr(),
+            state.totals.as_mut_ptr(),
+            matches.as_mut_ptr(),
+            held.as_mut_ptr(),
+        )
+    };
+    assert_eq!(number, 0);
 }
 
 /// The number of matches.

@@ -1,6 +1,6 @@
-// Clear, program, ask, commit, start, step, task lookup, first match and the
-// panel as plain loops in C, to compare speed with, and a full reading of the
-// flags beside the panel.
+// Clear, program, ask, commit, start, step, several steps, task lookup, first
+// match and the panel as plain loops in C, to compare speed with, and a full
+// reading of the flags beside the panel.
 //
 // A program in C would work out sizes and columns once, when it sets the array
 // up, and would trust its own buffers. So these leave out:
@@ -8,7 +8,7 @@
 //   15 of the start, and question 8 of the lookups; a commit asks 17;
 // - of question 9, whether the count is that of the place; a step asks that the
 //   cycle is open and that check, digit, column and factor are those of an
-//   opening or of a vector of the schedule;
+//   opening or of a vector of the schedule, and so do several, at the first;
 // - the remainder of a counter that somebody else wrote.
 
 #include <stddef.h>
@@ -153,38 +153,39 @@ static uint8_t open_cycle(const struct array *array, struct record *record,
     return 0;
 }
 
-uint8_t loops_step(const struct array *array, struct record *record,
-                   const uint8_t *restrict cells,
-                   const uint8_t *restrict lines, uint8_t *restrict counters,
-                   uint8_t *restrict flags, uint8_t *restrict totals,
-                   uint8_t *restrict matches)
+// The factors of the record's digit lie below this power of the radix.
+static size_t span_of(const struct array *array, const struct record *record)
 {
-    size_t column = record->column;
-    if (record->phase == OPEN && record->factor == 0)
-        return open_cycle(array, record, lines, flags, totals, matches);
+    return array->powers[array->digits - record->digit];
+}
+
+// Whether the cycle is open and the record's place is that of a vector.
+static int awaits_vector(const struct array *array, const struct record *record)
+{
     if (record->phase != OPEN || record->check >= array->checks ||
         record->digit < record->skip || record->digit >= array->digits ||
-        column >= array->columns ||
-        !(array->matrix[column] >> record->check & 1))
-        return 9;
-    size_t span = array->powers[array->digits - record->digit];
-    if (record->factor >= span || record->factor % array->radix == 0)
-        return 9;
+        record->column >= array->columns ||
+        !(array->matrix[record->column] >> record->check & 1))
+        return 0;
+    return record->factor < span_of(array, record) &&
+           record->factor % array->radix != 0;
+}
 
-    size_t rows = array->rows, columns = array->columns;
-    uint8_t radix = (uint8_t)array->radix;
-    uint8_t input = (uint8_t)(record->factor * array->powers[record->digit]);
-    const uint8_t *cell = cells + column;
-    // no branch on the line, so that the loop takes many rows at a time
-    for (size_t i = 0; i < rows; i++, cell += columns)
-        matches[i] = (*cell >= input) & (lines[i] == 0);
-    for (size_t i = 0; i < rows; i++) {
-        uint8_t sum = (uint8_t)(counters[i] + matches[i]);
-        counters[i] = sum == radix ? 0 : sum;
-    }
+// The input of the record's column.
+static uint8_t input_of(const struct array *array, const struct record *record)
+{
+    return (uint8_t)(record->factor * array->powers[record->digit]);
+}
 
-    int ends_digit =
-        column == array->width + record->check && record->factor + 1 == span;
+// What follows when a vector is counted: at the end of a digit rows are flagged,
+// at the end of a check the counters return to 0, and the record moves on.
+static void close_vector(const struct array *array, struct record *record,
+                         uint8_t *restrict counters, uint8_t *restrict flags,
+                         uint8_t *restrict totals)
+{
+    size_t rows = array->rows, span = span_of(array, record);
+    int ends_digit = record->column == array->width + record->check &&
+                     record->factor + 1 == span;
     if (ends_digit) {
         for (size_t i = 0; i < rows; i++)
             flags[i] = counters[i] ? 1 : flags[i];
@@ -193,6 +194,87 @@ uint8_t loops_step(const struct array *array, struct record *record,
             memset(counters, 0, rows);
     }
     advance(array, record, span, ends_digit);
+}
+
+uint8_t loops_step(const struct array *array, struct record *record,
+                   const uint8_t *restrict cells,
+                   const uint8_t *restrict lines, uint8_t *restrict counters,
+                   uint8_t *restrict flags, uint8_t *restrict totals,
+                   uint8_t *restrict matches)
+{
+    if (record->phase == OPEN && record->factor == 0)
+        return open_cycle(array, record, lines, flags, totals, matches);
+    if (!awaits_vector(array, record))
+        return 9;
+    size_t rows = array->rows, columns = array->columns;
+    uint8_t radix = (uint8_t)array->radix, input = input_of(array, record);
+    const uint8_t *cell = cells + record->column;
+    // no branch on the line, so that the loop takes many rows at a time
+    for (size_t i = 0; i < rows; i++, cell += columns)
+        matches[i] = (*cell >= input) & (lines[i] == 0);
+    for (size_t i = 0; i < rows; i++) {
+        uint8_t sum = (uint8_t)(counters[i] + matches[i]);
+        counters[i] = sum == radix ? 0 : sum;
+    }
+    close_vector(array, record, counters, flags, totals);
+    return 0;
+}
+
+// The cells of a column.
+static void hold_column(const struct array *array, size_t column,
+                        const uint8_t *restrict cells, uint8_t *restrict held)
+{
+    size_t rows = array->rows, columns = array->columns;
+    cells += column;
+    for (size_t i = 0; i < rows; i++, cells += columns)
+        held[i] = *cells;
+}
+
+// Counts the rows that match an input in the column held.
+static void count_held(const struct array *array, uint8_t input,
+                       const uint8_t *restrict held,
+                       const uint8_t *restrict lines,
+                       uint8_t *restrict counters)
+{
+    size_t rows = array->rows;
+    uint8_t radix = (uint8_t)array->radix;
+    for (size_t i = 0; i < rows; i++) {
+        uint8_t matched = (held[i] >= input) & (lines[i] == 0);
+        uint8_t sum = (uint8_t)(counters[i] + matched);
+        counters[i] = sum == radix ? 0 : sum;
+    }
+}
+
+// At most so many steps up to the end of the cycle. The cells of a column are
+// copied when the column changes, and only the last step makes match bytes.
+uint8_t loops_steps(const struct array *array, struct record *record,
+                    size_t most, const uint8_t *restrict cells,
+                    const uint8_t *restrict lines, uint8_t *restrict counters,
+                    uint8_t *restrict flags, uint8_t *restrict totals,
+                    uint8_t *restrict matches, uint8_t *restrict held)
+{
+    size_t rows = array->rows, column = array->columns;  // none is held
+    uint8_t input = 0;
+    if (record->phase == OPEN && record->factor == 0) {
+        if (most-- == 0)
+            return 0;
+        if (open_cycle(array, record, lines, flags, totals, matches))
+            return 9;
+    }
+    if (!awaits_vector(array, record))
+        return 9;
+    for (; most > 0 && record->phase == OPEN; most--) {
+        if (record->column != column) {
+            column = record->column;
+            hold_column(array, column, cells, held);
+        }
+        input = input_of(array, record);
+        count_held(array, input, held, lines, counters);
+        close_vector(array, record, counters, flags, totals);
+    }
+    if (column < array->columns)
+        for (size_t i = 0; i < rows; i++)
+            matches[i] = (held[i] >= input) & (lines[i] == 0);
     return 0;
 }
 

@@ -6,7 +6,8 @@
 //! the lines whose title has one of them. The works are cycles, programming, ask
 //! and commit of the same rows, a belt change (a clear and the programming of
 //! every row), task lookups and first matches. At the end a coarse cycle is timed
-//! beside the one of all digits, and the panel beside a full reading of the flags.
+//! beside the one of all digits, the panel beside a full reading of the flags, and
+//! calls of several steps and of a whole cycle beside single steps.
 
 mod asks;
 mod belt;
@@ -17,6 +18,7 @@ mod panel;
 #[path = "../../tests/proved_calls/mod.rs"]
 mod proved_calls;
 mod rules;
+mod several;
 mod small_table;
 
 use std::time::{Duration, Instant};
@@ -29,11 +31,20 @@ use peer::testing::rows::sound_row;
 use peer::{Cycle, Phase, Shape, State};
 use small_table::Numbers;
 
-/// The least time that is spent on each line of the table.
-const PATIENCE: Duration = Duration::from_secs(1);
+/// How long a work is run.
+#[derive(Clone, Copy)]
+struct Patience {
+    /// The least time of all runs.
+    least: Duration,
+    /// The least number of runs.
+    runs: usize,
+}
 
-/// The least number of runs.
-const RUNS: usize = 7;
+/// What is spent on each line of the table.
+const PATIENCE: Patience = Patience {
+    least: Duration::from_secs(1),
+    runs: 7,
+};
 
 /// The steps or lookups of one piece, and the rows of one piece where they are
 /// programmed, asked for or committed.
@@ -127,16 +138,7 @@ fn main() {
     let largest = Shape::new(2, 8, 2, 247, 4096);
     line("first steps", largest, Work::Steps(Steps::first(2_000)));
     if chosen(asks::TITLE) {
-        // the first two have the least to encode for their width
-        for (radix, digits, errors, width) in [
-            (2, 1, 1, 1),
-            (255, 1, 1, 254),
-            (2, 3, 1, 50),
-            (16, 2, 2, 60),
-            (2, 8, 2, 247),
-        ] {
-            asks::lines(Shape::new(radix, digits, errors, width, 4096));
-        }
+        asks::all_lines();
     }
     for rows in [64, 512, 4096] {
         let shape = Shape::new(2, 3, 2, 50, rows);
@@ -158,11 +160,19 @@ fn main() {
             line(lookup.title(), shape, Work::Lookups(lookup));
         }
     }
+    tables(largest);
+}
+
+/// The tables after the lines.
+fn tables(largest: Shape) {
     if chosen(coarse::TITLE) {
         coarse::table(Shape::new(2, 8, 2, 60, 512), 4);
     }
     if chosen(panel::TITLE) {
         panel::table(largest);
+    }
+    if chosen(several::TITLE) {
+        several::table();
     }
 }
 
@@ -275,23 +285,32 @@ fn cycle(shape: Shape, steps: Steps) -> Pieces {
 
 /// The least times of all pieces of a run by each build; and what each run
 /// leaves.
-fn least(
+fn least(begin: &Bench, run: impl FnMut(Build, &mut Bench) -> Vec<Duration>) -> (Pieces, Bench) {
+    let there = |build: &Build| *build != Build::C || in_c::THERE;
+    let builds: Vec<Build> = BUILDS.into_iter().filter(there).collect();
+    let (mut least, end) = least_of(&builds, PATIENCE, begin, run);
+    least.resize(BUILDS.len(), Vec::new());
+    (least.try_into().expect("one for each build"), end)
+}
+
+/// The least times of all pieces of a run in each way, which take turns; and what
+/// each run leaves.
+fn least_of<W: Copy>(
+    ways: &[W],
+    patience: Patience,
     begin: &Bench,
-    mut run: impl FnMut(Build, &mut Bench) -> Vec<Duration>,
-) -> (Pieces, Bench) {
+    mut run: impl FnMut(W, &mut Bench) -> Vec<Duration>,
+) -> (Vec<Vec<Duration>>, Bench) {
     let mut bench = begin.clone();
     let mut end: Option<Bench> = None;
-    let mut least = Pieces::default();
+    let mut least = vec![Vec::new(); ways.len()];
     let clock = Instant::now();
     let mut runs = 0;
-    while runs < RUNS || clock.elapsed() < PATIENCE {
+    while runs < patience.runs || clock.elapsed() < patience.least {
         runs += 1;
-        for (build, least) in BUILDS.into_iter().zip(&mut least) {
-            if build == Build::C && !in_c::THERE {
-                continue;
-            }
+        for (&way, least) in ways.iter().zip(&mut least) {
             bench.copy_from(begin);
-            let pieces = run(build, &mut bench);
+            let pieces = run(way, &mut bench);
             if least.is_empty() {
                 least.clone_from(&pieces);
             }
@@ -325,12 +344,17 @@ fn check_end(begin: &Bench, end: &Bench, Steps { skip, steps }: Steps, shape: Sh
 }
 
 /// The times of all pieces of a work, which is told how much of it to do.
-fn timed(all: usize, mut work: impl FnMut(usize)) -> Vec<Duration> {
+fn timed(all: usize, work: impl FnMut(usize)) -> Vec<Duration> {
+    timed_in(PIECE, all, work)
+}
+
+/// The same for pieces of another size.
+fn timed_in(piece: usize, all: usize, mut work: impl FnMut(usize)) -> Vec<Duration> {
     (0..all)
-        .step_by(PIECE)
+        .step_by(piece)
         .map(|done| {
             let clock = Instant::now();
-            work(PIECE.min(all - done));
+            work(piece.min(all - done));
             clock.elapsed()
         })
         .collect()
