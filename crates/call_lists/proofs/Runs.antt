@@ -1,15 +1,17 @@
--- Runs of calls: what each call keeps a list keeps; states that follow one another; one list after the other; steps in a row; and a list of calls by number.
+-- Runs of calls: what each call keeps a list keeps; states that follow one another; one list after the other; and many steps in a row.
 -- Assumes nothing.
 use mathlib.Core.Path.{_≡_, refl, sym, _∙_, ap}
-use mathlib.Core.List.{List, [], _∷_, _++_, map}
-use Prim.Native.Nat.{ℕ, _+_}
-use native.Mathlib.Numerals.{add-one}
-use Rattle.parity.specs.Lists.{followed, joined}
+use mathlib.Core.List.{List, [], _∷_, _++_}
+use Prim.Native.Nat.{ℕ, zero, suc}
+use lib.ListN.{replicate}
+use Rattle.parity.specs.Lists.{followed}
 use Rattle.parity.specs.declared.Shape.{Shape}
 use Rattle.parity.proofs.Followed.{followed-keeps, followed-holds, followed-append}
 use Rattle.cycle.specs.Calls.{State, fresh, stepCall}
+use Rattle.cycle_run.specs.Cycles.{afterSteps}
+use Rattle.cycle_run.proofs.StepsLeft.{stepsClaim}
 use Rattle.call_lists.specs.Run.{Call, step, after, runFrom, run}
-use Rattle.call_lists.specs.Claims.{Leaves, Follows, FollowClaim}
+use Rattle.call_lists.specs.Claims.{Follows, FollowClaim, StepsListClaim}
 
 -- what holds of a state and a thing that follows its calls, and is kept by every call, holds after every list ..
 pub run-keeps :
@@ -37,15 +39,14 @@ module _ (s : Shape) (st : State) where
   pub run-append : (xs ys : List Call) → runFrom s st (xs ++ ys) ≡ runFrom s (runFrom s st xs) ys
   run-append xs ys = followed-append (after s) xs ys st
 
-  -- the run of calls 0 to i − 1, and then of call i
-  pub run-next :
-      (f : ℕ → Call) (i : ℕ)
-      → runFrom s st (joined (i + 1) (λ j. f j ∷ [])) ≡ after s (runFrom s st (joined i (λ j. f j ∷ []))) (f i)
-  run-next f i = ap (λ n. runFrom s st (joined n (λ j. f j ∷ []))) (add-one i) ∙ run-append (joined i (λ j. f j ∷ [])) (f i ∷ [])
+-- n steps with one buffer
+run-steps : (s : Shape) (n : ℕ) (matches : List ℕ) (st : State) → afterSteps s st (replicate n matches) ≡ runFrom s st (replicate n (step matches))
+run-steps s zero matches st = refl
+run-steps s (suc n) matches st = run-steps s n matches (stepCall s st matches .state)
 
--- a step with each of the buffers, one after the other
-pub run-steps :
-    (s : Shape) (buffers : List (List ℕ)) (st : State)
-    → followed (λ st matches. stepCall s st matches .state) st buffers ≡ runFrom s st (map step buffers)
-run-steps s [] st = refl
-run-steps s (matches ∷ buffers) st = run-steps s buffers (stepCall s st matches .state)
+pub stepsListClaim : StepsListClaim
+unfolding run
+stepsListClaim s calls n matches =
+    stepsClaim s (runFrom s (fresh s) calls) n matches
+    ∙ run-steps s n matches (runFrom s (fresh s) calls)
+    ∙ sym (run-append s (fresh s) calls (replicate n (step matches)))

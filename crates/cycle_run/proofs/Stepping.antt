@@ -53,7 +53,7 @@ pub record At (z : ℕ) (s : Shape) (c : ℕ) (st : State) : Type 0 where
 
 module _ (z : ℕ) (s : Shape) (t : Taken s) (some : z < s .digits) where
   module _ (c : ℕ) (st : State) (at : At z s c st) where
-    phase : isOpen (st .cycle .phase) ≡ ltb c (cycleSteps z s)
+    pub phase : isOpen (st .cycle .phase) ≡ ltb c (cycleSteps z s)
     phase = ap (λ r. isOpen (r .phase)) (at .cycle) ∙ open-below z s t c
 
     own-count : st .cycle .count ≡ c
@@ -82,7 +82,7 @@ module _ (z : ℕ) (s : Shape) (t : Taken s) (some : z < s .digits) where
         ap (λ b. cond b (stepping s n (stepCall s st buffer)) (giving said buffer st)) (phase ∙ lt-ltb c (cycleSteps z s) h)
         ∙ ap (stepping s n) (step-made h buffer e)
 
-    matches-sized : length (stepMatches s st) ≡ s .rows
+    pub matches-sized : length (stepMatches s st) ≡ s .rows
     unfolding stepMatches entryMatches matchBytes
     matches-sized = length-tabulate (s .rows) _
 

@@ -15,11 +15,13 @@ use Rattle.cycle_place.specs.Places.{entryAt, nextAt, isPlaceOf}
 use Rattle.cycle_lookup.specs.Lookup.{entryMatches, countedRows, flaggedRows, totalledBlocks, resetRows, lookedUp}
 use Rattle.cycle.specs.Record.{cycleAt, isNext}
 use Rattle.cycle.specs.Calls.{zeroRows, cleared, fresh, programCall, commitCall, started, startCall, stepMatches, steppedMemory, stepped, stepCall}
+use Rattle.cycle_run.specs.Steps.{stepsCall}
 use Rattle.call_lists.specs.Run.{run}
 use Rattle.detection.specs.Log.{blank, log}
 use Rattle.detection.specs.Examples.{ExamplesClaim, examples, DriftExamplesClaim, drifting, LineExamplesClaim, lineExamples}
 use Rattle.detection.specs.Examples.{CoarseExamplesClaim, coarseCycle, OpeningExampleClaim}
 use Rattle.detection.specs.Examples.{AskExampleClaim, asking, CommitExampleClaim, RefusedExampleClaim, refusedCalls}
+use Rattle.detection.specs.Examples.{AnsweredExampleClaim, StepsExampleClaim}
 
 pub examplesClaim : ExamplesClaim
 unfolding
@@ -86,10 +88,28 @@ commitExampleClaim = record { changed = refl; finished = refl; unsound = refl; h
 
 pub refusedExampleClaim : RefusedExampleClaim
 unfolding
-    refusedCalls run calling zeroRows cleared fresh programCall commitCall driftCall lineCall startCall stepCall started stepped steppedMemory rowWritten
-    drifted lineSet entryMatches countedRows flaggedRows totalledBlocks resetRows lookedUp stepMatches entryAt nextAt isPlaceOf cycleAt isNext
+    refusedCalls run calling zeroRows cleared fresh programCall commitCall askCall lookupCall driftCall lineCall startCall stepCall started stepped steppedMemory
+    rowWritten taskMatches taskCount taskVector drifted lineSet entryMatches countedRows flaggedRows totalledBlocks resetRows lookedUp stepMatches entryAt nextAt isPlaceOf cycleAt isNext
     cellCount blocksOf blockAt countFlagged blockTotals rowAt withRow rowMatch matchBytes counted flagged reset factors ofDigit ofCheck tests schedule
     unitVector testVector matchByte lineMatch isCodeword
     number checkDigit checkCell encode weight ofWeight columnOrder eligible ruleColumns checkColumns matrix support matrixOnes lookups
     digit levels largest limit redundancy checks columns
 refusedExampleClaim = record { numbers = refl; closed = refl }
+
+pub answeredExampleClaim : AnsweredExampleClaim
+unfolding
+    run calling zeroRows cleared fresh programCall askCall lookupCall taskMatches taskCount taskVector startCall stepCall started stepped steppedMemory rowWritten entryMatches
+    countedRows flaggedRows totalledBlocks resetRows lookedUp stepMatches entryAt nextAt isPlaceOf cycleAt isNext cellCount blocksOf blockAt countFlagged
+    blockTotals rowAt withRow rowMatch matchBytes counted flagged reset factors ofDigit ofCheck tests schedule unitVector testVector matchByte lineMatch
+    number checkDigit checkCell encode weight ofWeight columnOrder eligible ruleColumns checkColumns matrix support matrixOnes lookups
+    digit levels largest limit redundancy checks columns
+answeredExampleClaim = record { matched = refl; counted = refl; finished = refl; changed = refl; stepped = refl }
+
+pub stepsExampleClaim : StepsExampleClaim
+unfolding
+    stepsCall run calling zeroRows cleared fresh programCall startCall stepCall started stepped steppedMemory rowWritten entryMatches
+    countedRows flaggedRows totalledBlocks resetRows lookedUp stepMatches entryAt nextAt isPlaceOf cycleAt isNext cellCount blocksOf blockAt countFlagged
+    blockTotals rowAt withRow rowMatch matchBytes counted flagged reset factors ofDigit ofCheck tests schedule unitVector testVector matchByte lineMatch
+    number checkDigit checkCell encode weight ofWeight columnOrder eligible ruleColumns checkColumns matrix support matrixOnes lookups
+    digit levels largest limit redundancy checks columns
+stepsExampleClaim = record { counts = refl; matches = refl; taken = refl; ended = refl }

@@ -1,6 +1,6 @@
 -- The claim is not empty: four lists at a small shape (ρ 2, b 1, τ 1, k 1, m 2: n is 2 and a cycle has 3 steps), two there with a drift in a cycle,
 -- four with lines, and four with coarse cycles at a shape of three digits, with what they leave; there the opening step itself; ask and commit at both
--- shapes; and the numbers of refused calls.
+-- shapes; the numbers of refused calls, and what calls and many steps give.
 use mathlib.Core.Path.{_≡_}
 use mathlib.Core.Bool.{Bool, true, false}
 use mathlib.Core.List.{List, [], _∷_, _++_, map}
@@ -9,7 +9,9 @@ use lib.ListN.{replicate}
 use Rattle.parity.specs.Matrix.{cycleSteps}
 use Rattle.parity.specs.declared.Shape.{Shape}
 use Rattle.array.specs.Calls.{lineCall}
-use Rattle.cycle.specs.Calls.{stepCall}
+use Rattle.shape.specs.Answers.{Result}
+use Rattle.cycle.specs.Calls.{State, stepCall}
+use Rattle.cycle_run.specs.Steps.{stepsCall}
 use Rattle.call_lists.specs.Run.{Call, start, program, ask, commit, drift, line, lookup, step, callOf, run}
 use Rattle.detection.specs.Log.{LogCycle, LogMarks, none, ended, log}
 use Rattle.detection.specs.Commits.{asks, commits}
@@ -178,15 +180,20 @@ pub record CommitExampleClaim : Type 0 where
 
 -- ---- the numbers of refused calls
 
--- in an open cycle: a step with a buffer of one byte; a row and a column that are not there; a level of q, beside a row that is there and one that is
--- not; all digits skipped; a line byte of 2, beside a row that is there and one that is not; and a row that isn't sound
+-- in an open cycle: a step and a lookup with a buffer of one byte; a row and a column that are not there; a level of q, beside a row that is there and
+-- one that is not, as an input, and asked about; all digits skipped; a line byte of 2, beside a row that is there and one that is not; and a row that
+-- isn't sound
 unfoldable pub refusedCalls : List Call
 refusedCalls =
     step (7 ∷ [])
+    ∷ lookup (1 ∷ []) (7 ∷ [])
     ∷ program 2 (1 ∷ [])
     ∷ drift 1 2 0
     ∷ drift 1 0 2
     ∷ drift 2 0 2
+    ∷ lookup (2 ∷ []) (7 ∷ 7 ∷ [])
+    ∷ ask 1 (2 ∷ []) (7 ∷ 7 ∷ [])
+    ∷ ask 2 (2 ∷ []) (7 ∷ 7 ∷ [])
     ∷ start 1
     ∷ line 1 2
     ∷ line 2 2
@@ -199,5 +206,28 @@ numberAfter calls c = callOf small (run small calls) c .said .number
 
 -- A step gets 9 where no cycle is open and where one has ended.
 pub record RefusedExampleClaim : Type 0 where
-  pub numbers : map (numberAfter opened) refusedCalls ≡ 6 ∷ 7 ∷ 7 ∷ 8 ∷ 7 ∷ 15 ∷ 16 ∷ 7 ∷ 17 ∷ []
+  pub numbers : map (numberAfter opened) refusedCalls ≡ 6 ∷ 6 ∷ 7 ∷ 7 ∷ 8 ∷ 7 ∷ 8 ∷ 8 ∷ 7 ∷ 15 ∷ 16 ∷ 7 ∷ 17 ∷ []
   pub closed : map (λ calls. numberAfter calls stepTwo) ([] ∷ (start 0 ∷ stepTwo ∷ stepTwo ∷ stepTwo ∷ []) ∷ []) ≡ 9 ∷ 9 ∷ []
+
+-- ---- what calls in a list give
+
+-- in an open cycle, row 1 holding a 1: a task lookup of 1 matches row 1 alone, and row 1 would change in both cells to hold a 0
+pub record AnsweredExampleClaim : Type 0 where
+  pub matched : callOf small (run small opened) (lookup (1 ∷ []) (7 ∷ 7 ∷ [])) .bytes ≡ 0 ∷ 1 ∷ []
+  pub counted : callOf small (run small opened) (lookup (1 ∷ []) (7 ∷ 7 ∷ [])) .said .value ≡ 1
+  pub finished : callOf small (run small opened) (ask 1 (0 ∷ []) (7 ∷ 7 ∷ [])) .bytes ≡ 0 ∷ 0 ∷ []
+  pub changed : callOf small (run small opened) (ask 1 (0 ∷ []) (7 ∷ 7 ∷ [])) .said .value ≡ 2
+  pub stepped : callOf small (run small opened) stepTwo .bytes ≡ 0 ∷ 1 ∷ []
+
+-- ---- many steps
+
+-- at most n steps after a list of calls
+abbrev pub stepsAfter : List Call → ℕ → Result State
+stepsAfter calls n = stepsCall small (run small calls) n (7 ∷ 7 ∷ [])
+
+-- Two steps are left in that cycle. With 0 nothing is done; with 2 and with more it ends; and where it has ended every number is refused with 9.
+pub record StepsExampleClaim : Type 0 where
+  pub counts : map (λ n. stepsAfter opened n .state .cycle .count) (0 ∷ 1 ∷ 2 ∷ 9 ∷ []) ≡ 1 ∷ 2 ∷ 3 ∷ 3 ∷ []
+  pub matches : map (λ n. stepsAfter opened n .bytes) (0 ∷ 1 ∷ 2 ∷ 9 ∷ []) ≡ (7 ∷ 7 ∷ []) ∷ (0 ∷ 1 ∷ []) ∷ (0 ∷ 1 ∷ []) ∷ (0 ∷ 1 ∷ []) ∷ []
+  pub taken : map (λ n. stepsAfter opened n .said .number) (0 ∷ 1 ∷ 2 ∷ 9 ∷ []) ≡ 0 ∷ 0 ∷ 0 ∷ 0 ∷ []
+  pub ended : map (λ n. stepsAfter (opened ++ stepTwo ∷ stepTwo ∷ []) n .said .number) (0 ∷ 1 ∷ 9 ∷ []) ≡ 9 ∷ 9 ∷ 9 ∷ []
