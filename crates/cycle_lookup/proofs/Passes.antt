@@ -220,7 +220,8 @@ look-reduced s e test mem sized =
     withRows (resetRows s e counters) flags (totalledBlocks e flags (mem .totals)) mem in
     ap left
     (tabulate-same (s .rows) _ _ λ i h.
-    go (e .opens) (getD matches i 0) (getD (mem .counters) i 0) test (getD-tabulate (length (mem .counters)) (reducedByte (s .radix) (mem .counters)) i 0 (omega arith)))
+    go (e .opens) (getD matches i 0) (getD (mem .counters) i 0) test
+    (getD-tabulate (length (mem .counters)) (reducedByte (s .radix) (mem .counters)) i 0 (omega arith)))
   where
     go :
         (opens : Bool) (byte counter : ℕ) → opens ≡ false → {own : ℕ} → own ≡ counter % s .radix

@@ -14,7 +14,7 @@ use Rattle.parity.proofs.ListLaws.{length-tabulate}
 use Rattle.parity.proofs.Taken.{limits}
 use Rattle.shape.specs.Answers.{accepted, giving}
 use Rattle.array_memory.specs.Lengths.{Sized}
-use Rattle.array_memory.specs.Memory.{Memory, withArray, withAll, noMemory}
+use Rattle.array_memory.specs.Memory.{Memory, withAll, noMemory}
 use Rattle.cycle_passes.specs.Passes.{columnCells, reducedBytes}
 use Rattle.cycle_place.specs.Places.{nextAt}
 use Rattle.cycle_place.specs.Walk.{Stands, indexOf, testOf}
@@ -29,7 +29,7 @@ use Rattle.cycle.specs.declared.Cycle.{Cycle}
 use Rattle.cycle.proofs.CycleRecord.{record-count, record-skip, next-open, next-place}
 use Rattle.cycle.proofs.Steps.{stepped-sized}
 use Rattle.cycle_run.specs.Steps.{stepping}
-use Rattle.cycle_run.specs.Tests.{TestsLeft}
+use Rattle.cycle_run.specs.Tests.{TestsLeft, testedAt}
 use Rattle.cycle_run.proofs.Stepping.{open-below, At, stepping-next}
 
 -- ---- a record whose next lookup is a test
@@ -156,13 +156,13 @@ module _
         pub one-step :
             (mem : Memory) (n : ℕ) (bytes : List ℕ) → length bytes ≡ s .rows
             → stepping s (suc n) (giving (accepted 0) bytes (stateOf (withAll cells lines counters flags totals mem) now))
-            ≡ stepping s n
-            (giving (accepted 0) (entryMatches s (testOf z s (now .place)) (withArray cells lines mem))
-            (stateOf (withAll cells lines counted flagged totalled mem) after))
+            ≡ stepping s n (testedAt z s (now .place) (withAll cells lines counted flagged totalled mem) after)
         unfolding stepMatches stepped steppedMemory entryMatches
         one-step mem n bytes l =
             let lent : Memory = withAll cells lines counters flags totals mem in
             stepping-next z s t some (now .count) (stateOf lent now) (record { sized = h .sized; cycle = h .cycle }) before-end n (accepted 0) bytes l
-            ∙ ap (λ e. stepping s n (giving (accepted 0) (entryMatches s e lent) (stateOf (lookedUp s e lent) (cycleAt (now .skip) s (suc (now .count)))))) next-is
-            ∙ ap₂ (λ made cycle. stepping s n (giving (accepted 0) (entryMatches s (testOf z s (now .place)) (withArray cells lines mem)) (stateOf made cycle)))
+            ∙ ap
+            (λ e. stepping s n (giving (accepted 0) (entryMatches s e lent) (stateOf (lookedUp s e lent) (cycleAt (now .skip) s (suc (now .count))))))
+            next-is
+            ∙ ap₂ (λ made cycle. stepping s n (giving (accepted 0) (entryMatches s (testOf z s (now .place)) lent) (stateOf made cycle)))
             (looked mem) (ap (λ z. cycleAt z s (suc (now .count))) own-skip ∙ sym after-is)

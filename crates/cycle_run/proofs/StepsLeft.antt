@@ -126,7 +126,8 @@ stepsClaim s st n matches = go (firstNo (stepQuestions s st matches)) refl
         (at s st matches e) (accepted 0) matches (sized s st matches e)
     go (suc number) e =
         let fails : (firstNo (stepQuestions s st matches) ≡ suc number) × (0 < suc number) = (e, zero-lt-suc number) in
-        let same = ap (λ r. r .state) (call-refused (stepQuestions s st matches) matches st (giving (accepted 0) (stepMatches s st) (stepped s st)) (suc number) fails) in
+        let made = giving (accepted 0) (stepMatches s st) (stepped s st) in
+        let same = ap (λ r. r .state) (call-refused (stepQuestions s st matches) matches st made (suc number) fails) in
         ap (λ r. r .state) (call-refused (stepQuestions s st matches) matches st _ (suc number) fails) ∙ sym (refused-left s st matches same n)
 
 pub countClaim : CountClaim

@@ -1,4 +1,4 @@
--- Only serves the code's own contracts: a record whose next lookup is a test, and what is held from one test to the next.
+-- Only serves the code's own contracts: a record whose next lookup is a test, what a test gives, and what is held from one test to the next.
 use mathlib.Core.Path.{_≡_}
 use mathlib.Core.List.{List}
 use Prim.Native.Nat.{ℕ, _<_}
@@ -6,6 +6,12 @@ use lib.ListN.{length, getD}
 use Rattle.parity.specs.Matrix.{cycleSteps}
 use Rattle.parity.specs.Shape.{columns}
 use Rattle.parity.specs.declared.Shape.{Shape}
+use Rattle.shape.specs.Answers.{Result, accepted, giving}
+use Rattle.array_memory.specs.Memory.{Memory}
+use Rattle.cycle_place.specs.Walk.{testOf}
+use Rattle.cycle_place.specs.declared.Place.{Place}
+use Rattle.cycle_lookup.specs.Lookup.{entryMatches}
+use Rattle.cycle.specs.Calls.{State, stateOf}
 use Rattle.cycle.specs.Record.{cycleAt}
 use Rattle.cycle.specs.declared.Cycle.{Cycle}
 use Rattle.cycle_passes.specs.Passes.{columnCells}
@@ -16,6 +22,10 @@ pub record TestsLeft (s : Shape) (cycle : Cycle) : Type 0 where
   pub opened : 0 < cycle .count
   pub more : cycle .count < cycleSteps (cycle .skip) s
   pub stands : cycle ≡ cycleAt (cycle .skip) s (cycle .count)
+
+-- what the test at a place gives that leaves this memory and this record
+abbrev pub testedAt : ℕ → Shape → Place → Memory → Cycle → Result State
+testedAt z s p mem cycle = giving (accepted 0) (entryMatches s (testOf z s p) mem) (stateOf mem cycle)
 
 -- the cells of column j in the place of the match bytes, and counters below ρ
 pub record ColumnHeld (s : Shape) (j : ℕ) (cellBytes counterBytes columnBytes : List ℕ) : Type 0 where

@@ -28,18 +28,17 @@ ghost use Rattle.parity.specs.Questions.{firstNo};
 ghost use Rattle.shape.specs.Answers.{accepted, giving};
 ghost use Rattle.shape.specs.Lent.{was, left};
 ghost use Rattle.shape.specs.Shapes.{Passed};
-ghost use Rattle.array_memory.specs.Buffers.{wasArray, wasAll, leftAll, nowAll};
+ghost use Rattle.array_memory.specs.Buffers.{wasAll, leftAll, nowAll};
 ghost use Rattle.array_memory.specs.Lengths.{allLengths};
 ghost use Rattle.array_memory.specs.Memory.{Memory};
 ghost use Rattle.array_questions.specs.Questions.{lentQuestions};
-ghost use Rattle.cycle_lookup.specs.Lookup.{entryMatches};
 ghost use Rattle.cycle_lookup.specs.Rows.{RowsLent};
 ghost use Rattle.cycle_passes.specs.Passes.{columnCells};
-ghost use Rattle.cycle_place.specs.Walk.{Stands, testOf, MatrixLent};
+ghost use Rattle.cycle_place.specs.Walk.{Stands, MatrixLent};
 ghost use Rattle.cycle.specs.Calls.{stateOf};
 ghost use Rattle.cycle.specs.Methods.{changing, doneWith};
 ghost use Rattle.cycle_run.specs.Steps.{stepping, stepsCall};
-ghost use Rattle.cycle_run.specs.Tests.{TestsLeft, ColumnHeld};
+ghost use Rattle.cycle_run.specs.Tests.{TestsLeft, testedAt, ColumnHeld};
 
 // The record after some tests, and the place of the last of them.
 pub(crate) struct Tested {
@@ -69,10 +68,8 @@ fn count_tests(
     ensures stands { λ r. ⌜ Stands (cycle .skip) shape (r .last) ⌝ }
     ensures held { λ r. ⌜ left matches ≡ columnCells (length (was matrix)) (r .last .column) (was cells) (length (was matches)) ⌝ }
     ensures stepped { λ r. ⌜ ((mem : Memory)
-        → stepping shape most (giving (accepted 0) (entryMatches shape (testOf (cycle .skip) shape (cycle .place)) (wasArray cells lines mem))
-        (stateOf (wasAll cells lines counters flags totals mem) cycle))
-        ≡ giving (accepted 0) (entryMatches shape (testOf (cycle .skip) shape (r .last)) (wasArray cells lines mem))
-        (stateOf (leftAll cells lines counters flags totals mem) (r .cycle))) ⌝ }
+        → stepping shape most (testedAt (cycle .skip) shape (cycle .place) (wasAll cells lines counters flags totals mem) cycle)
+        ≡ testedAt (cycle .skip) shape (r .last) (leftAll cells lines counters flags totals mem) (r .cycle)) ⌝ }
 {
     let columns = matrix.len();
     let skip = cycle.skip;

@@ -88,28 +88,27 @@ commitExampleClaim = record { changed = refl; finished = refl; unsound = refl; h
 
 pub refusedExampleClaim : RefusedExampleClaim
 unfolding
-    refusedCalls run calling zeroRows cleared fresh programCall commitCall askCall lookupCall driftCall lineCall startCall stepCall started stepped steppedMemory
-    rowWritten taskMatches taskCount taskVector drifted lineSet entryMatches countedRows flaggedRows totalledBlocks resetRows lookedUp stepMatches entryAt nextAt isPlaceOf cycleAt isNext
-    cellCount blocksOf blockAt countFlagged blockTotals rowAt withRow rowMatch matchBytes counted flagged reset factors ofDigit ofCheck tests schedule
-    unitVector testVector matchByte lineMatch isCodeword
-    number checkDigit checkCell encode weight ofWeight columnOrder eligible ruleColumns checkColumns matrix support matrixOnes lookups
-    digit levels largest limit redundancy checks columns
+    refusedCalls run calling zeroRows cleared fresh programCall commitCall askCall lookupCall driftCall lineCall startCall stepCall started stepped
+    steppedMemory rowWritten taskMatches taskCount taskVector drifted lineSet entryMatches countedRows flaggedRows totalledBlocks resetRows lookedUp
+    stepMatches entryAt nextAt isPlaceOf cycleAt isNext cellCount blocksOf blockAt countFlagged blockTotals rowAt withRow rowMatch matchBytes counted
+    flagged reset factors ofDigit ofCheck tests schedule unitVector testVector matchByte lineMatch isCodeword number checkDigit checkCell encode weight
+    ofWeight columnOrder eligible ruleColumns checkColumns matrix support matrixOnes lookups digit levels largest limit redundancy checks columns
 refusedExampleClaim = record { numbers = refl; closed = refl }
 
 pub answeredExampleClaim : AnsweredExampleClaim
 unfolding
-    run calling zeroRows cleared fresh programCall askCall lookupCall taskMatches taskCount taskVector startCall stepCall started stepped steppedMemory rowWritten entryMatches
-    countedRows flaggedRows totalledBlocks resetRows lookedUp stepMatches entryAt nextAt isPlaceOf cycleAt isNext cellCount blocksOf blockAt countFlagged
-    blockTotals rowAt withRow rowMatch matchBytes counted flagged reset factors ofDigit ofCheck tests schedule unitVector testVector matchByte lineMatch
-    number checkDigit checkCell encode weight ofWeight columnOrder eligible ruleColumns checkColumns matrix support matrixOnes lookups
-    digit levels largest limit redundancy checks columns
+    run calling zeroRows cleared fresh programCall askCall lookupCall taskMatches taskCount taskVector startCall stepCall started stepped steppedMemory
+    rowWritten entryMatches countedRows flaggedRows totalledBlocks resetRows lookedUp stepMatches entryAt nextAt isPlaceOf cycleAt isNext cellCount
+    blocksOf blockAt countFlagged blockTotals rowAt withRow rowMatch matchBytes counted flagged reset factors ofDigit ofCheck tests schedule unitVector
+    testVector matchByte lineMatch number checkDigit checkCell encode weight ofWeight columnOrder eligible ruleColumns checkColumns matrix support
+    matrixOnes lookups digit levels largest limit redundancy checks columns
 answeredExampleClaim = record { matched = refl; counted = refl; finished = refl; changed = refl; stepped = refl }
 
 pub stepsExampleClaim : StepsExampleClaim
 unfolding
-    stepsCall run calling zeroRows cleared fresh programCall startCall stepCall started stepped steppedMemory rowWritten entryMatches
-    countedRows flaggedRows totalledBlocks resetRows lookedUp stepMatches entryAt nextAt isPlaceOf cycleAt isNext cellCount blocksOf blockAt countFlagged
+    stepsCall run calling zeroRows cleared fresh programCall startCall stepCall started stepped steppedMemory rowWritten entryMatches countedRows
+    flaggedRows totalledBlocks resetRows lookedUp stepMatches entryAt nextAt isPlaceOf cycleAt isNext cellCount blocksOf blockAt countFlagged
     blockTotals rowAt withRow rowMatch matchBytes counted flagged reset factors ofDigit ofCheck tests schedule unitVector testVector matchByte lineMatch
-    number checkDigit checkCell encode weight ofWeight columnOrder eligible ruleColumns checkColumns matrix support matrixOnes lookups
-    digit levels largest limit redundancy checks columns
+    number checkDigit checkCell encode weight ofWeight columnOrder eligible ruleColumns checkColumns matrix support matrixOnes lookups digit levels
+    largest limit redundancy checks columns
 stepsExampleClaim = record { counts = refl; matches = refl; taken = refl; ended = refl }

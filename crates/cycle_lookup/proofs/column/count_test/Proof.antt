@@ -36,7 +36,10 @@ ended c = c .before .before .before .before .before .before
 
 -- what is given
 module _ (c : tie.Start) where
-  sized : Sized (c .args .shape) (withAll (c .args .cells .now) (c .args .lines .now) (c .args .counters .now) (c .args .flags .now) (c .args .totals .now) noMemory)
+  abbrev lent : Memory
+  lent = withAll (c .args .cells .now) (c .args .lines .now) (c .args .counters .now) (c .args .flags .now) (c .args .totals .now) noMemory
+
+  sized : Sized (c .args .shape) lent
   sized = c .pre .1 .0 .memory
 
   -- a × ρ^s, which is a byte

@@ -49,7 +49,8 @@ module _ (c : tie.After-count-matches) where
   start = entry (reduced (c .before) .before)
 
   matches-made :
-      (mem : Memory) → c .count-matches .last .1 .1 .0 ≡ entryMatches (start .args .shape) (test start) (withArray (start .args .cells .now) (start .args .lines .now) mem)
+      (mem : Memory)
+      → c .count-matches .last .1 .1 .0 ≡ entryMatches (start .args .shape) (test start) (withArray (start .args .cells .now) (start .args .lines .now) mem)
   matches-made mem =
       let taking = looked (reduced (c .before) .before) in
       let input = taking .before .before .scale in
@@ -120,7 +121,9 @@ count-matches-requires c κs =
       lines = sized .lines ∙ sym (rows ∙ sized .rows .counters);
       cells = ap length (looked (reducing .before) .take-column .ensures) ∙ length-tabulate (length (start .args .matches .now)) _
           ∙ start .pre .1 .matches ∙ sym (rows ∙ sized .rows .counters);
-      below = λ i h. rw (reducing .reduce-rows .ensures) (reduced-below (start .args .shape .radix) (omega arith) (start .args .counters .now) i (omega (arith, rows)));
+      below = λ i h.
+          rw (reducing .reduce-rows .ensures)
+          (reduced-below (start .args .shape .radix) (omega arith) (start .args .counters .now) i (omega (arith, rows)));
     }
 
 end-test-requires : tie.Need-end-test-requires

@@ -27,21 +27,23 @@ use Rattle.cycle.specs.Moves.{Movable}
 use Rattle.cycle.specs.Record.{isOpen}
 use Rattle.cycle.proofs.CycleRecord.{open-phase}
 use Rattle.cycle_run.specs.Steps.{stepping}
+use Rattle.cycle_run.specs.Tests.{testedAt}
 use Rattle.cycle_run.proofs.Stepping.{stepping-none, stepping-closed}
 use Rattle.cycle_run.proofs.HeldColumn.{test-place, Held, before-end, at-test, one-more, one-step}
 use Rattle.cycle_run.proofs.steps.count_tests.Statement.{statement}
 use Rattle.cycle_run.proofs.steps.count_tests.Tie as tie
 
 abbrev Inv-loop : tie.InvT-loop
-Inv-loop most shape checks matrix cells lines counters₀ flags₀ totals₀ matches₀ columns skip now₀ last₀ digit₀ left₀ counters flags totals matches now last digit left =
-    Held skip shape cells lines counters flags totals matches now last
-    × (digit ≡ digitAt shape (digit .number))
+Inv-loop most s checks matrix cells lines counters₀ flags₀ totals₀ matches₀ n z now₀ last₀ digit₀ left₀ counters flags totals matches now last digit left =
+    Held z s cells lines counters flags totals matches now last
+    × (digit ≡ digitAt s (digit .number))
     × ((mem : Memory)
-    → stepping shape left₀ (giving (accepted 0) (entryMatches shape (testOf skip shape last₀) (withArray cells lines mem)) (stateOf (withAll cells lines counters₀ flags₀ totals₀ mem) now₀))
-    ≡ stepping shape left (giving (accepted 0) (entryMatches shape (testOf skip shape last) (withArray cells lines mem)) (stateOf (withAll cells lines counters flags totals mem) now)))
+    → stepping s left₀ (testedAt z s last₀ (withAll cells lines counters₀ flags₀ totals₀ mem) now₀)
+    ≡ stepping s left (testedAt z s last (withAll cells lines counters flags totals mem) now))
 
 abbrev μ-loop : tie.MeasureT-loop
-μ-loop most shape checks matrix cells lines counters₀ flags₀ totals₀ matches₀ columns skip now₀ last₀ digit₀ left₀ counters flags totals matches now last digit left = left
+μ-loop most s checks matrix cells lines counters₀ flags₀ totals₀ matches₀ n z now₀ last₀ digit₀ left₀ counters flags totals matches now last digit left =
+    left
 
 -- the places of the call and of a turn, each from one that follows
 abbrev known : tie.After-last Inv-loop μ-loop → tie.After-slice-known Inv-loop μ-loop
@@ -195,13 +197,13 @@ loop-again c =
     let next = ap (λ here. here .next) (follow .follow .ensures) in
     let counted = testing .count-test .ensures in
     let column = counted .0 ∙ ap₂ (λ n m. columnCells n (loop .now .place .column) (begin .args .cells .now) m) (wide begin) (buffer turning) in
+    let lent = withAll (begin .args .cells .now) (begin .args .lines .now) in
     let enough : loop .left ≡ suc (loop .left - 1) = omega arith in (
       one-more z s t some (held turning) (is-open turning) next (c .moved .ensures) (counted .1) column,
       digit-kept s _ (follow .before .hold-digit .ensures),
       λ mem.
           loop .inv .2 mem
-          ∙ ap (λ n. stepping s n (giving (accepted 0) (entryMatches s (testOf z s (loop .last)) (withArray (begin .args .cells .now) (begin .args .lines .now) mem))
-          (stateOf (withAll (begin .args .cells .now) (begin .args .lines .now) (loop .counters) (loop .flags) (loop .totals) mem) (loop .now)))) enough
+          ∙ ap (λ n. stepping s n (testedAt z s (loop .last) (lent (loop .counters) (loop .flags) (loop .totals) mem) (loop .now))) enough
           ∙ one-step z s t some (held turning) (is-open turning) next (c .moved .ensures) (counted .1) column mem (loop .left - 1) _
           (length-tabulate (s .rows) _),
     )

@@ -1,7 +1,7 @@
 -- `cycle_run::steps::make_tests` meets its contract: nothing is done where no test is to be made; else the counters are reduced, the first test's column
 -- is taken, `count_tests` makes the tests, and the cells that it leaves become the last one's match bytes. Assumes nothing.
 use mathlib.Core.Path.{_≡_, refl, sym, ap, ap₂, _∙_}
-use Prim.Native.Nat.{ℕ, _*_, _^_, _<_}
+use Prim.Native.Nat.{_*_, _^_, _<_}
 use native.Mathlib.Omega.{arith}
 use lib.ListN.{length}
 use borrow.Author.Needs.{needs}
@@ -21,6 +21,7 @@ use Rattle.cycle_lookup.specs.Lookup.{entryMatches}
 use Rattle.cycle_lookup.proofs.Passes.{test-proper, test-matches, reduced-below}
 use Rattle.cycle.specs.Calls.{stateOf}
 use Rattle.cycle_run.specs.Steps.{stepping}
+use Rattle.cycle_run.specs.Tests.{testedAt}
 use Rattle.cycle_run.proofs.Stepping.{stepping-none}
 use Rattle.cycle_run.proofs.HeldColumn.{test-place, steps-reduced}
 use Rattle.cycle_run.proofs.steps.make_tests.Statement.{statement}
@@ -189,15 +190,15 @@ returns-2 c =
     let t = taken begin in
     let cells = begin .args .cells .now in
     let lines = begin .args .lines .now in
-    let flags = begin .args .flags .now in
-    let totals = begin .args .totals .now in
-    let first = entryMatches s (testOf z s (begin .args .cycle .place)) in
+    let lent = withAll cells lines (begin .args .counters .now) (begin .args .flags .now) (begin .args .totals .now) in
     let left = testing .count-tests .last .1 .1 .1 .1 .1 .1 .1 in
     λ mem.
-    steps-reduced s t (begin .args .cycle) (begin .pre .1 .1) cells lines (begin .args .counters .now) flags totals (begin .pre .1 .0 .memory) mem
-    (begin .args .most) (omega (arith, some (reduced (taking .before)) .if1 .left)) (begin .args .matches .now) (first (withArray cells lines mem)) (begin .pre .1 .0 .matches)
-    (length-tabulate (s .rows) _)
-    ∙ ap (λ counters. stepping s (begin .args .most) (giving (accepted 0) (first (withArray cells lines mem)) (stateOf (withAll cells lines counters flags totals mem) (begin .args .cycle))))
+    steps-reduced s t (begin .args .cycle) (begin .pre .1 .1) cells lines (begin .args .counters .now) (begin .args .flags .now) (begin .args .totals .now)
+    (begin .pre .1 .0 .memory) mem (begin .args .most) (omega (arith, some (reduced (taking .before)) .if1 .left)) (begin .args .matches .now)
+    (entryMatches s (testOf z s (begin .args .cycle .place)) (lent mem)) (begin .pre .1 .0 .matches) (length-tabulate (s .rows) _)
+    ∙ ap
+    (λ counters. stepping s (begin .args .most)
+    (testedAt z s (begin .args .cycle .place) (withAll cells lines counters (begin .args .flags .now) (begin .args .totals .now) mem) (begin .args .cycle)))
     (sym (reduced (taking .before) .reduce-rows .ensures))
     ∙ testing .count-tests .ensures .1 .1 mem
     ∙ ap (λ bytes. giving (accepted 0) bytes (stateOf (withAll cells lines (left .0) (left .1 .0) (left .1 .1 .0) mem) (testing .count-tests .result .cycle)))
