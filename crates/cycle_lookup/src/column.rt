@@ -65,17 +65,20 @@ pub fn make_test(
     let digit = place.digit;
     // a × ρ^s is below q, and so a byte
     let input = scale(place.factor, radix, digit) as u8;
-    take_column(cells, columns, place.column, matches);
+    // the next factor's step finds the last rows' cells at hand
+    let up = place.factor / 2 % 2 == 1;
+    take_column(cells, columns, place.column, up, matches);
     reduce_rows(counters, radix);
     count_matches(counters, lines, matches, input, radix as u8);
     end_test(ends, digit <= skip, counters, flags, totals);
 }
 
 // The same but for the match bytes, which are not asked for: in their place stand the cells of the test's column, and are taken
-// anew only where another column is held. The counters are below ρ, and `unit` is ρ^s.
+// anew, from either end, only where another column is held. The counters are below ρ, and `unit` is ρ^s.
 pub fn count_test(
     place: Place,
     held: usize,
+    up: bool,
     unit: usize,
     skip: usize,
     shape: Shape,
@@ -99,7 +102,7 @@ pub fn count_test(
     let digit = place.digit;
     let column = place.column;
     let input = (place.factor * unit) as u8;
-    hold_column(cells, columns, column, held, matches);
+    hold_column(cells, columns, column, held, up, matches);
     count_column(counters, lines, matches, input, radix);
     end_test(ends, digit <= skip, counters, flags, totals);
 }

@@ -10,8 +10,8 @@ ghost use Rattle.shape.specs.Bounds.{Within};
 ghost use Rattle.shape.specs.Lent.{was, left};
 ghost use Rattle.cycle_passes.specs.Passes.{columnCells, reducedBytes, columnMatches, countedBytes, overwrittenBytes, ColumnLent, ToCount};
 
-// The cells of one column, row after row.
-pub fn take_column(cells: &[u8], columns: usize, column: usize, bytes: &mut [u8])
+// The cells of one column, row after row, from the first.
+fn take_down(cells: &[u8], columns: usize, column: usize, bytes: &mut [u8])
     requires { ⌜ ColumnLent (length (now cells)) columns column (length (now bytes)) ⌝ }
     ensures { λ _. ⌜ left bytes ≡ columnCells columns column (was cells) (length (was bytes)) ⌝ }
 {
@@ -24,8 +24,42 @@ pub fn take_column(cells: &[u8], columns: usize, column: usize, bytes: &mut [u8]
     }
 }
 
+// The same, from the last row.
+fn take_up(cells: &[u8], columns: usize, column: usize, bytes: &mut [u8])
+    requires { ⌜ ColumnLent (length (now cells)) columns column (length (now bytes)) ⌝ }
+    ensures { λ _. ⌜ left bytes ≡ columnCells columns column (was cells) (length (was bytes)) ⌝ }
+{
+    let mut i = bytes.len();
+    let mut at = i * columns + column;
+    while 0 < i {
+        i -= 1;
+        at -= columns;
+        bytes[i] = cells[at];
+    }
+}
+
+// The same, from either end. A column after another is best taken from the end at which that one was left, where the cells
+// are at hand still.
+pub fn take_column(cells: &[u8], columns: usize, column: usize, up: bool, bytes: &mut [u8])
+    requires { ⌜ ColumnLent (length (now cells)) columns column (length (now bytes)) ⌝ }
+    ensures { λ _. ⌜ left bytes ≡ columnCells columns column (was cells) (length (was bytes)) ⌝ }
+{
+    if up {
+        take_up(cells, columns, column, bytes);
+        return;
+    }
+    take_down(cells, columns, column, bytes);
+}
+
 // The same, where the bytes are those of the column that is held: nothing is to be done if it is this one.
-pub fn hold_column(cells: &[u8], columns: usize, column: usize, held: usize, bytes: &mut [u8])
+pub fn hold_column(
+    cells: &[u8],
+    columns: usize,
+    column: usize,
+    held: usize,
+    up: bool,
+    bytes: &mut [u8],
+)
     requires { ⌜ ColumnLent (length (now cells)) columns column (length (now bytes)) ⌝ }
     requires { ⌜ (column ≡ held → now bytes ≡ columnCells columns column (now cells) (length (now bytes))) ⌝ }
     ensures { λ _. ⌜ left bytes ≡ columnCells columns column (was cells) (length (was bytes)) ⌝ }
@@ -33,7 +67,7 @@ pub fn hold_column(cells: &[u8], columns: usize, column: usize, held: usize, byt
     if column == held {
         return;
     }
-    take_column(cells, columns, column, bytes);
+    take_column(cells, columns, column, up, bytes);
 }
 
 // Any bytes count by their remainders. Counters below ρ, as accepted steps leave them, are their own.

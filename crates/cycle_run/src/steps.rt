@@ -76,6 +76,7 @@ fn count_tests(
     let mut now = cycle;
     let mut last = cycle.place;
     let mut digit = digit_of(shape, last.digit);
+    let mut up = false;
     let mut left = most;
     while 0 < left && now.is_open() {
         let place = now.place;
@@ -83,9 +84,11 @@ fn count_tests(
         let here = follow(place, digit.span, skip, shape, checks, matrix);
         let ends = here.ends;
         let next = here.next;
+        up = if place.column == last.column { up } else { !up };
         count_test(
             place,
             last.column,
+            up,
             digit.unit,
             skip,
             shape,
@@ -132,7 +135,7 @@ fn make_tests(
     let radix = shape.radix;
     let column = cycle.place.column;
     reduce_rows(counters, radix);
-    take_column(cells, matrix.len(), column, matches);
+    take_column(cells, matrix.len(), column, false, matches);
     let tested = count_tests(
         cycle,
         most,

@@ -29,7 +29,7 @@ abbrev looked : tie.After-reduce-rows-arg → tie.After-take-column
 looked c = c .before .before .before
 
 abbrev entry : tie.After-reduce-rows-arg → tie.Start
-entry c = scaled (looked c .before .before)
+entry c = scaled (looked c .before .before .before)
 
 abbrev reduced : tie.After-count-matches-arg2 → tie.After-reduce-rows
 reduced c = c .before .before .before .before
@@ -53,7 +53,7 @@ module _ (c : tie.After-count-matches) where
       → c .count-matches .last .1 .1 .0 ≡ entryMatches (start .args .shape) (test start) (withArray (start .args .cells .now) (start .args .lines .now) mem)
   matches-made mem =
       let taking = looked (reduced (c .before) .before) in
-      let input = taking .before .before .scale in
+      let input = taking .before .before .before .scale in
       test-matches (start .args .skip) (start .args .shape) (start .pre .0 .taken) (start .args .place) (start .pre .0 .stands)
       (withArray (start .args .cells .now) (start .args .lines .now) mem) (start .pre .1 .memory .cells) (start .args .columns)
       (length (start .args .matches .now)) (input .result) (start .pre .0 .columns) (start .pre .1 .matches) (input .ensures) (taking .take-column .ensures)
@@ -91,7 +91,7 @@ cast-input c =
 take-column-requires : tie.Need-take-column-requires
 unfolding cellCount
 take-column-requires c κs =
-    let start = scaled (c .before) in
+    let start = scaled (c .before .before) in
     record {
       column = omega (arith, start .pre .0 .stands .column, start .pre .0 .columns);
       cells = omega (arith, start .pre .1 .memory .cells, ap₂ _*_ (start .pre .1 .matches) (start .pre .0 .columns));

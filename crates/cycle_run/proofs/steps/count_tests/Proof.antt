@@ -3,7 +3,7 @@
 use mathlib.Core.Path.{_≡_, refl, sym, ap, ap₂, _∙_}
 use mathlib.Core.Bool.{true}
 use mathlib.Core.List.{List}
-use Prim.Native.Nat.{ℕ, suc, _+_, _-_}
+use Prim.Native.Nat.{ℕ, suc, _-_, _<_}
 use native.Mathlib.Omega.{arith}
 use lib.ListN.{length}
 use borrow.Author.Needs.{needs}
@@ -34,7 +34,7 @@ use Rattle.cycle_run.proofs.steps.count_tests.Statement.{statement}
 use Rattle.cycle_run.proofs.steps.count_tests.Tie as tie
 
 abbrev Inv-loop : tie.InvT-loop
-Inv-loop most s checks matrix cells lines counters₀ flags₀ totals₀ matches₀ n z now₀ last₀ digit₀ left₀ counters flags totals matches now last digit left =
+Inv-loop k s r cs cells lines counters₀ flags₀ totals₀ matches₀ n z now₀ last₀ digit₀ up₀ left₀ counters flags totals matches now last digit up left =
     Held z s cells lines counters flags totals matches now last
     × (digit ≡ digitAt s (digit .number))
     × ((mem : Memory)
@@ -42,7 +42,7 @@ Inv-loop most s checks matrix cells lines counters₀ flags₀ totals₀ matches
     ≡ stepping s left (testedAt z s last (withAll cells lines counters flags totals mem) now))
 
 abbrev μ-loop : tie.MeasureT-loop
-μ-loop most s checks matrix cells lines counters₀ flags₀ totals₀ matches₀ n z now₀ last₀ digit₀ left₀ counters flags totals matches now last digit left =
+μ-loop k s r cs cells lines counters₀ flags₀ totals₀ matches₀ n z now₀ last₀ digit₀ up₀ left₀ counters flags totals matches now last digit up left =
     left
 
 -- the places of the call and of a turn, each from one that follows
@@ -58,8 +58,11 @@ looped c = c .before .before .before
 abbrev turn : tie.After-follow Inv-loop μ-loop → tie.Then1 Inv-loop μ-loop
 turn c = c .before .before .before
 
+abbrev followed : tie.Joined2 Inv-loop μ-loop → tie.After-follow Inv-loop μ-loop
+followed c = c .before .before .before
+
 abbrev following : tie.After-count-test Inv-loop μ-loop → tie.After-follow Inv-loop μ-loop
-following c = c .before .before .before .before .before
+following c = followed (c .before .before .before .before .before)
 
 abbrev tested : tie.After-slice-known8 Inv-loop μ-loop → tie.After-count-test Inv-loop μ-loop
 tested c = c .before .before .before .before .before .before .before .before
@@ -145,7 +148,7 @@ follow-requires c κs =
 
 count-test-requires : tie.Need-count-test-requires Inv-loop μ-loop
 count-test-requires c κs =
-    let follow = c .before .before .before .before in
+    let follow = followed (c .before .before .before .before) in
     let turning = turn follow in
     let begin = start turning in (
       record {
@@ -176,11 +179,15 @@ moved-requires c κs =
       below = omega (arith, end, lookups-high (begin .args .cycle .skip) (shape begin) (taken begin));
     }
 
+-- a test may still be made
+some-left : (c : tie.After-slice-known8 Inv-loop μ-loop) → 0 < looped (turn (following (tested c))) .loop .left
+some-left c = turn (following (tested c)) .before .before .loop-test .taken
+
 sub-left : tie.Need-sub-left Inv-loop μ-loop
-sub-left c = omega arith
+sub-left c = omega (arith, some-left (c .before))
 
 loop-less : tie.Need-loop-less Inv-loop μ-loop
-loop-less c = omega arith
+loop-less c = omega (arith, some-left (c .before))
 
 loop-again : tie.Need-loop-again Inv-loop μ-loop
 unfolding entryMatches matchBytes
@@ -198,7 +205,7 @@ loop-again c =
     let counted = testing .count-test .ensures in
     let column = counted .0 ∙ ap₂ (λ n m. columnCells n (loop .now .place .column) (begin .args .cells .now) m) (wide begin) (buffer turning) in
     let lent = withAll (begin .args .cells .now) (begin .args .lines .now) in
-    let enough : loop .left ≡ suc (loop .left - 1) = omega arith in (
+    let enough : loop .left ≡ suc (loop .left - 1) = omega (arith, some-left (c .before)) in (
       one-more z s t some (held turning) (is-open turning) next (c .moved .ensures) (counted .1) column,
       digit-kept s _ (follow .before .hold-digit .ensures),
       λ mem.

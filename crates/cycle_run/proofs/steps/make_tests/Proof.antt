@@ -69,7 +69,7 @@ module _ (c : tie.After-take-column) where
   counters-sized = ap length (reduced (c .before) .reduce-rows .ensures) ∙ length-tabulate (length (entry .args .counters .now)) _
       ∙ entry .pre .1 .0 .memory .rows .counters
 
-  matches-sized : length (c .take-column .last .1 .1 .1 .0) ≡ shape entry .rows
+  matches-sized : length (c .take-column .last .1 .1 .1 .1 .0) ≡ shape entry .rows
   matches-sized = ap length (c .take-column .ensures) ∙ length-tabulate (length (entry .args .matches .now)) _ ∙ entry .pre .1 .0 .matches
 
 -- ---- the last test
