@@ -4,7 +4,6 @@ use mathlib.Core.Bool.{Bool}
 use mathlib.Core.List.{List, [], _∷_}
 use Prim.Native.Nat.{ℕ}
 use lib.Dec.{eqb}
-use lib.ListN.{length}
 use Rattle.parity.specs.Lists.{alongside}
 use Rattle.parity.specs.Shape.{levels}
 use Rattle.parity.specs.Questions.{question, firstNo, shapeQuestions, lengthsQuestion, levelsQuestion, inputsQuestion}

@@ -1,6 +1,5 @@
 -- On a shape taken and a memory whose buffers have their lengths the first no to a call is that to its own arguments. Assumes nothing.
-use mathlib.Core.Path.{_≡_, ap, _∙_}
-use mathlib.Core.Bool.{true}
+use mathlib.Core.Path.{_≡_}
 use mathlib.Core.List.{List, [], _∷_, _++_}
 use Prim.Native.Nat.{ℕ, _<_}
 use lib.Dec.{lit<}

@@ -1,5 +1,5 @@
 -- A clear that is taken leaves the fresh array. Assumes nothing.
-use mathlib.Core.Path.{_≡_, ap}
+use mathlib.Core.Path.{ap}
 use mathlib.Core.List.{[]}
 use Rattle.shape.proofs.Calling.{call-done, call-taken}
 use Rattle.cycle.specs.Calls.{zeroRows, cleared, fresh, clearCall}

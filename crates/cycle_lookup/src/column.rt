@@ -14,7 +14,7 @@ ghost use mathlib.Core.Path.{_≡_};
 ghost use mathlib.Core.Bool.{cond, _&&_};
 ghost use lib.ListN.{length, replicate};
 ghost use Rattle.shape.specs.Lent.{was, left};
-ghost use Rattle.array_memory.specs.Blocks.{blocksOf, blockTotals};
+ghost use Rattle.array_memory.specs.Blocks.{blockTotals};
 ghost use Rattle.array_memory.specs.Memory.{Memory};
 ghost use Rattle.array_memory.specs.Buffers.{wasArray, wasAll, leftAll, nowAll};
 ghost use Rattle.cycle_passes.specs.Passes.{columnCells, overwrittenBytes};

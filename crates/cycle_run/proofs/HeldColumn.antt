@@ -30,7 +30,7 @@ use Rattle.cycle.proofs.CycleRecord.{record-count, record-skip, next-open, next
 use Rattle.cycle.proofs.Steps.{stepped-sized}
 use Rattle.cycle_run.specs.Steps.{stepping}
 use Rattle.cycle_run.specs.Tests.{TestsLeft, testedAt}
-use Rattle.cycle_run.proofs.Stepping.{open-below, At, stepping-next}
+use Rattle.cycle_run.proofs.Stepping.{open-below, stepping-next}
 
 -- ---- a record whose next lookup is a test
 

@@ -15,8 +15,6 @@ use Rattle.parity.specs.Lists.{keep, everyTo}
 use Rattle.parity.specs.Shape.{digit, largest, checks}
 use Rattle.parity.specs.Matrix.{weight, ofWeight, columnOrder, eligible, ruleColumns}
 use Rattle.parity.specs.Claims.{Among, Precedes, Ordered, RuleColumnsClaim}
-use Rattle.parity.specs.Questions.{Taken}
-use Rattle.parity.specs.declared.Shape.{Shape}
 use Rattle.parity.proofs.Taken.{limits}
 use Rattle.parity.proofs.Redundancy.{redundancyClaim}
 use Rattle.parity.proofs.ListLaws.{grid-at, Each, each-keep, each-take, pairs-keep, pairs-take, among-keep, among-take}

@@ -1,6 +1,6 @@
 -- Question 6 after others, by the sizes in hand: on one length, on several, and on those of the memory's part and of the buffers among the arguments
 -- together. Assumes nothing.
-use mathlib.Core.Path.{_≡_, refl, sym, ap, _∙_}
+use mathlib.Core.Path.{_≡_, sym, ap, _∙_}
 use mathlib.Core.Bool.{Bool, true, and-true}
 use mathlib.Core.List.{List, [], _∷_, _++_}
 use Prim.Native.Nat.{ℕ}

@@ -1,6 +1,6 @@
 -- `array_questions::check_commit` meets its contract: 6 on the cells and the finished row, 7, 8, and then 17, where the row is of n levels.
 -- Assumes nothing.
-use mathlib.Core.Path.{_≡_, refl, sym, ap, _∙_}
+use mathlib.Core.Path.{_≡_, refl, ap}
 use mathlib.Core.Bool.{true}
 use mathlib.Core.List.{List, [], _∷_, _++_}
 use lib.Dec.{ltb, lit<}

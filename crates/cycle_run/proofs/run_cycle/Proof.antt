@@ -1,6 +1,6 @@
 -- `cycle_run::run_cycle` meets its contract: 15 and then 6 are asked, `start_lent` starts the cycle, and `steps_lent` makes its steps: no fewer
 -- than it has. Assumes nothing.
-use mathlib.Core.Path.{_≡_, refl, sym, _∙_, ap, ap₂, subst}
+use mathlib.Core.Path.{_≡_, refl, sym, _∙_, ap, subst}
 use mathlib.Core.List.{List, [], _∷_, _++_}
 use mathlib.Core.Bool.{true}
 use Prim.Native.Nat.{ℕ, _≤_, _<_}

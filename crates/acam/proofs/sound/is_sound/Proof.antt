@@ -1,5 +1,5 @@
 -- `acam::sound::is_sound` meets its contract: a level that fails fails the whole test, and else `is_balanced` tells. Assumes nothing.
-use mathlib.Core.Path.{sym, _∙_}
+use mathlib.Core.Path.{_∙_}
 use mathlib.Core.Bool.{and-false}
 use borrow.Author.Needs.{needs}
 use borrow.Author.Tests.{not-true, not-false}

@@ -1,5 +1,5 @@
 -- `array::ask::ask` meets its contract: `check_ask` asks, and `ask_lent` writes the finished row and counts. Assumes nothing.
-use mathlib.Core.List.{List, []}
+use mathlib.Core.List.{List}
 use lib.ListN.{length}
 use borrow.Author.Needs.{needs}
 use Rattle.parity.specs.Questions.{Question}

@@ -1,5 +1,5 @@
 -- `array::cells::read` meets its contract: `check_read` asks, and `read_lent` copies the rule cells out. Assumes nothing.
-use mathlib.Core.List.{List, []}
+use mathlib.Core.List.{List}
 use lib.ListN.{length}
 use borrow.Author.Needs.{needs}
 use Rattle.parity.specs.Questions.{Question}

@@ -1,5 +1,5 @@
 -- `array::cells::sound` meets its contract: `check_sound` asks, and `sound_lent` tests the row. Assumes nothing.
-use mathlib.Core.Path.{_≡_, ap, _∙_}
+use mathlib.Core.Path.{ap, _∙_}
 use mathlib.Core.Bool.{false}
 use mathlib.Core.List.{List}
 use lib.ListN.{length}

@@ -1,9 +1,8 @@
 -- `array_lookup::first::first_lent` meets its contract: the search goes over the rows. Assumes nothing.
-use mathlib.Core.Path.{_≡_, sym, ap, _∙_}
+use mathlib.Core.Path.{sym, ap, _∙_}
 use native.Mathlib.Omega.{arith}
 use lib.Dec.{eqb}
 use lib.ListN.{length}
-use borrow.Author.Needs.{needs}
 use Rattle.parity.specs.Match.{taskVector}
 use Rattle.parity.specs.Shape.{columns}
 use Rattle.shape.specs.Answers.{none, rowOrNone, accepted, answering}

@@ -1,5 +1,5 @@
 -- `array_lookup::first::first_match` meets its contract: `check_first` asks, and `first_lent` searches. Assumes nothing.
-use mathlib.Core.Path.{_≡_, ap, _∙_}
+use mathlib.Core.Path.{ap, _∙_}
 use mathlib.Core.List.{List}
 use lib.ListN.{length}
 use borrow.Author.Needs.{needs}

@@ -1,5 +1,5 @@
 -- `array_questions::memory::check_start` meets its contract: 15, and then 6 on counters, flags and totals. Assumes nothing.
-use mathlib.Core.Path.{_≡_, refl, ap, _∙_}
+use mathlib.Core.Path.{refl, ap, _∙_}
 use mathlib.Core.List.{List, [], _∷_, _++_}
 use Prim.Native.Nat.{ℕ}
 use lib.Dec.{eqb}

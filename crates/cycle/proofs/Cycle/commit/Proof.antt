@@ -1,12 +1,12 @@
 -- `cycle::Cycle::commit` meets its contract: `check_commit` asks, `put_row` writes the row, and the record is idle. Assumes nothing.
-use mathlib.Core.Path.{_≡_, refl, sym, ap, _∙_}
+use mathlib.Core.Path.{refl}
 use mathlib.Core.List.{List, []}
 use lib.ListN.{length}
 use borrow.Author.Needs.{needs}
 use Rattle.parity.specs.Questions.{Question}
 use Rattle.shape.specs.Shapes.{Passed}
 use Rattle.shape.proofs.Refusals.{answer-taken, answer-refused}
-use Rattle.array_memory.specs.Memory.{Memory, withCells}
+use Rattle.array_memory.specs.Memory.{withCells}
 use Rattle.array_questions.specs.Questions.{cellsQuestions, commitArguments}
 use Rattle.array.specs.Calls.{rowWritten}
 use Rattle.cycle.specs.Calls.{commitCall}

@@ -1,5 +1,5 @@
 -- `cycle::Cycle::program` meets its contract: `check_program` asks, `write_row` writes the row, and the record is idle. Assumes nothing.
-use mathlib.Core.Path.{_≡_, refl, sym, ap, _∙_}
+use mathlib.Core.Path.{refl}
 use mathlib.Core.List.{List, []}
 use lib.ListN.{length}
 use borrow.Author.Needs.{needs}
@@ -7,7 +7,7 @@ use Rattle.parity.specs.Codeword.{encode}
 use Rattle.parity.specs.Questions.{Question}
 use Rattle.shape.specs.Shapes.{Passed}
 use Rattle.shape.proofs.Refusals.{answer-taken, answer-refused}
-use Rattle.array_memory.specs.Memory.{Memory, withCells}
+use Rattle.array_memory.specs.Memory.{withCells}
 use Rattle.array_questions.specs.Questions.{cellsQuestions, programArguments}
 use Rattle.array.specs.Calls.{rowWritten}
 use Rattle.cycle.specs.Calls.{programCall}

@@ -1,5 +1,5 @@
 -- `cycle::calls::clear_lent` meets its contract: every buffer is filled with 0. Assumes nothing.
-use mathlib.Core.Path.{_≡_, refl, sym, ap, _∙_}
+use mathlib.Core.Path.{refl, sym, ap, _∙_}
 use mathlib.Core.List.{List, []}
 use Prim.Native.Nat.{ℕ}
 use lib.Dec.{lit<}

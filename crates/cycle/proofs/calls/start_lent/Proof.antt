@@ -1,5 +1,5 @@
 -- `cycle::calls::start_lent` meets its contract: counters, flags and totals are filled with 0, and the record is that of a start. Assumes nothing.
-use mathlib.Core.Path.{_≡_, refl, sym, ap, _∙_}
+use mathlib.Core.Path.{refl, sym, ap, _∙_}
 use mathlib.Core.List.{List, []}
 use Prim.Native.Nat.{ℕ}
 use lib.Dec.{lit<}

@@ -1,7 +1,7 @@
 -- `cycle_lookup::column::make_test` meets its contract: the column's cells become the test's match bytes and are counted, and `end_test` does the rest.
 -- Assumes nothing.
 use mathlib.Core.Path.{_≡_, sym, ap, ap₂, _∙_}
-use Prim.Native.Nat.{ℕ, _*_}
+use Prim.Native.Nat.{_*_}
 use native.Mathlib.Omega.{arith}
 use lib.ListN.{length}
 use borrow.Author.Needs.{needs}

@@ -1,10 +1,9 @@
 -- `cycle_passes::rows::add_match` meets its contract: a sum is at most ρ, so it is its own remainder or ρ itself. Assumes nothing.
 use mathlib.Core.Path.{sym, ap, _∙_}
-use Prim.Native.Nat.{_+_, _%_}
+use Prim.Native.Nat.{_%_}
 use native.Mathlib.Nat.{mod-self, mod-eq-of-lt}
 use native.Mathlib.Omega.{arith}
 use lib.Arith.{lt-of-le-ne}
-use borrow.Author.Needs.{needs}
 use Rattle.cycle_passes.proofs.rows.add_match.Statement.{statement}
 use Rattle.cycle_passes.proofs.rows.add_match.Tie as tie
 

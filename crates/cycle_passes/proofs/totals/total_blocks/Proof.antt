@@ -1,7 +1,6 @@
 -- `cycle_passes::totals::total_blocks` meets its contract: the first i blocks are counted, and the next starts where block i does. Assumes
 -- nothing.
 use mathlib.Core.Path.{_≡_, refl, _∙_, ap}
-use mathlib.Core.Logic.{⊎-elim}
 use mathlib.Core.List.{List}
 use Prim.Native.Nat.{ℕ, _+_, _-_, _*_, _<_}
 use native.Mathlib.Omega.{arith}

@@ -1,10 +1,9 @@
 -- `cycle_place::digits::digit_of` meets its contract: q / ρ^s is a power of ρ, and so is ρ^s, each at most q. Assumes nothing.
-use mathlib.Core.Path.{_≡_, sym, _∙_}
+use mathlib.Core.Path.{sym, _∙_}
 use native.Mathlib.Nat.{one-mul}
 use native.Mathlib.Omega.{arith}
 use borrow.Author.Needs.{needs}
 use Rattle.parity.proofs.Taken.{limits}
-use Rattle.cycle_place.specs.declared.digits.Digit.{Digit}
 use Rattle.cycle_place.proofs.Spans.{span-as, span-high, unit-high}
 use Rattle.cycle_place.proofs.digits.digit_of.Statement.{statement}
 use Rattle.cycle_place.proofs.digits.digit_of.Tie as tie

@@ -13,17 +13,14 @@ use Rattle.parity.specs.declared.Shape.{Shape}
 use Rattle.parity.proofs.Longest.{lookups-high}
 use Rattle.parity.proofs.MatrixFacts.{matrixClaim}
 use Rattle.parity.proofs.ListLaws.{length-tabulate}
-use Rattle.shape.specs.Answers.{accepted, giving}
 use Rattle.array_memory.specs.Geometry.{matchBytes}
-use Rattle.array_memory.specs.Memory.{Memory, withArray, withAll, noMemory}
+use Rattle.array_memory.specs.Memory.{Memory, withAll}
 use Rattle.cycle_passes.specs.Passes.{columnCells}
 use Rattle.cycle_place.specs.Digits.{digitAt}
-use Rattle.cycle_place.specs.Walk.{Stands, testOf}
+use Rattle.cycle_place.specs.Walk.{Stands}
 use Rattle.cycle_place.specs.declared.digits.Digit.{Digit}
 use Rattle.cycle_place.proofs.Places.{AtPlace}
 use Rattle.cycle_lookup.specs.Lookup.{entryMatches}
-use Rattle.cycle.specs.Calls.{stateOf}
-use Rattle.cycle.specs.Moves.{Movable}
 use Rattle.cycle.specs.Record.{isOpen}
 use Rattle.cycle.proofs.CycleRecord.{open-phase}
 use Rattle.cycle_run.specs.Steps.{stepping}

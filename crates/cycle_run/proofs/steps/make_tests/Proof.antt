@@ -1,6 +1,6 @@
 -- `cycle_run::steps::make_tests` meets its contract: nothing is done where no test is to be made; else the counters are reduced, the first test's column
 -- is taken, `count_tests` makes the tests, and the cells that it leaves become the last one's match bytes. Assumes nothing.
-use mathlib.Core.Path.{_≡_, refl, sym, ap, ap₂, _∙_}
+use mathlib.Core.Path.{_≡_, sym, ap, ap₂, _∙_}
 use Prim.Native.Nat.{_*_, _^_, _<_}
 use native.Mathlib.Omega.{arith}
 use lib.ListN.{length}
@@ -13,8 +13,8 @@ use Rattle.parity.proofs.MatrixFacts.{matrixClaim}
 use Rattle.parity.proofs.Taken.{limits}
 use Rattle.shape.specs.Answers.{accepted, giving}
 use Rattle.array_memory.specs.Geometry.{matchBytes}
-use Rattle.array_memory.specs.Memory.{Memory, withArray, withAll, noMemory}
-use Rattle.cycle_passes.specs.Passes.{columnCells, reducedBytes}
+use Rattle.array_memory.specs.Memory.{withArray, withAll}
+use Rattle.cycle_passes.specs.Passes.{columnCells}
 use Rattle.cycle_place.specs.Walk.{Stands, testOf}
 use Rattle.cycle_place.specs.declared.Place.{Place}
 use Rattle.cycle_lookup.specs.Lookup.{entryMatches}

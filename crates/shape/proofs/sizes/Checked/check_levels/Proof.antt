@@ -1,6 +1,5 @@
 -- `shape::sizes::Checked::check_levels` meets its contract: a refusal stays, and after sizes the levels are held to q. Assumes nothing.
 use mathlib.Core.Path.{_≡_, sym, ap, _∙_}
-use mathlib.Core.Bool.{Bool}
 use mathlib.Core.List.{[], _∷_}
 use lib.Dec.{ltb, lit<}
 use borrow.Author.Needs.{needs}
