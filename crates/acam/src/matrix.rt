@@ -14,6 +14,7 @@ ghost use Rattle.parity.specs.Lists.{keep, filledFrom};
 ghost use Rattle.parity.specs.Matrix.{columnOrder, eligible, ruleColumns, checkColumns, matrix as matrixOf};
 ghost use Rattle.acam.specs.Matrices.{ruleWeight, matrixArray};
 ghost use Rattle.acam.specs.Rows.{RulesFit, Measured, TakenWith};
+ghost use Rattle.shape.specs.Bounds.{Within};
 ghost use Rattle.shape.specs.Lent.{was, left};
 
 // How many of a weight's columns can be rule columns, for τ = 2 and 3: all of them or none.
@@ -91,6 +92,14 @@ pub fn fill_matrix(part: &mut [u8], shape: Shape, checks: usize)
     let width = shape.width;
     fill_rules(&mut part[..width], errors, checks);
     fill_checks(&mut part[width..]);
+}
+
+// The bytes that so many columns are lent in to be counted, 32 at a time: a multiple of 32.
+pub fn padded_length(columns: usize) -> usize
+    requires { ⌜ columns ≤ 255 ⌝ }
+    ensures { λ r. ⌜ Within columns r 256 ⌝ }
+{
+    (columns + 31) / 32 * 32
 }
 
 // The same in an array, and 0 after them.

@@ -51,8 +51,6 @@ module _ (s : Shape) (mem : Memory) where
     pub array-lent : lengthsQuestion (length (mem .cells) ∷ length (mem .lines) ∷ []) (arrayWanted s) .holds ≡ true
     array-lent = equal-alongside _ _ (λ i. z .cells i ∷ z .lines i ∷ [])
 
-    pub flagged-lent : lengthsQuestion (flaggedLengths mem) (flaggedWanted s) .holds ≡ true
-    flagged-lent = equal-alongside _ _ (λ i. z .rows .flags i ∷ z .rows .totals i ∷ [])
 
     pub rows-lent : lengthsQuestion (rowsLengths mem) (rowsWanted s) .holds ≡ true
     rows-lent = equal-alongside _ _ (λ i. z .rows .counters i ∷ z .rows .flags i ∷ z .rows .totals i ∷ [])

@@ -4,6 +4,7 @@
 use super::Changed;
 use super::Cycle;
 use acam::matrix::fill_matrix;
+use acam::matrix::padded_length;
 use array::write::put_row;
 use array::write::write_row;
 use array_questions::check_commit;
@@ -22,7 +23,7 @@ use shape::sizes::Checked;
 use shape::sizes::Sizes;
 use shape::sizes::check_shape;
 ghost use mathlib.Core.Path.{_≡_};
-ghost use mathlib.Core.List.{[], _∷_};
+ghost use mathlib.Core.List.{[]};
 ghost use lib.ListN.{length};
 ghost use Rattle.parity.specs.Questions.{firstNo};
 ghost use Rattle.shape.specs.Answers.{accepted, giving};
@@ -32,7 +33,7 @@ ghost use Rattle.array_memory.specs.Buffers.{wasCells, leftCells, wasRows, left
 ghost use Rattle.array_memory.specs.Lengths.{rowsLengths, allLengths};
 ghost use Rattle.array_memory.specs.Memory.{Memory};
 ghost use Rattle.array_questions.specs.Questions.{clearQuestions, startQuestions, lentQuestions};
-ghost use Rattle.cycle_place.specs.Walk.{MatrixLent};
+ghost use Rattle.cycle_place.specs.Walk.{PaddedLent};
 ghost use Rattle.cycle.specs.declared.Cycle.{Cycle as CycleRecord};
 ghost use Rattle.cycle.specs.Calls.{stateOf, clearCall, programCall, commitCall, startCall, stepCall};
 ghost use Rattle.cycle.specs.Methods.{changing, refusedWith, doneWith};
@@ -222,12 +223,14 @@ impl Cycle {
     {
         let columns = sizes.columns;
         let checks = sizes.checks;
-        let mut matrix = [0u8; 255];
+        let padded = padded_length(columns);
+        let mut matrix = [0u8; 256];
         fill_matrix(&mut matrix[..columns], shape, checks);
         self.step_at(
             shape,
             checks,
-            &matrix[..columns],
+            columns,
+            &matrix[..padded],
             cells,
             lines,
             counters,
@@ -237,12 +240,13 @@ impl Cycle {
         )
     }
 
-    // The same by the check matrix: question 9, and then the lookup.
+    // The same by the check matrix, padded with 0: question 9, and then the lookup.
     fn step_at(
         self,
         shape: Shape,
         checks: usize,
-        matrix: &[u8],
+        columns: usize,
+        padded: &[u8],
         cells: &[u8],
         lines: &[u8],
         counters: &mut [u8],
@@ -250,13 +254,12 @@ impl Cycle {
         totals: &mut [u8],
         matches: &mut [u8],
     ) -> Changed
-        requires { ⌜ MatrixLent shape checks (now matrix) ⌝ }
+        requires { ⌜ PaddedLent shape checks columns (now padded) ⌝ }
         requires { ⌜ firstNo (lentQuestions shape [] (allLengths (nowAll cells lines counters flags totals)) (length (now matches))) ≡ 0 ⌝ }
         ensures { λ r. ⌜ ((mem : Memory) → stepCall shape (stateOf (wasAll cells lines counters flags totals mem) self) (was matches)
             ≡ changing r (left matches) (leftAll cells lines counters flags totals mem)) ⌝ }
     {
-        let columns = matrix.len();
-        match self.locate(shape, checks, matrix) {
+        match self.locate(shape, checks, columns, padded) {
             Located::Elsewhere => refused(self, 9),
             Located::Opening(next) => {
                 make_opening(lines, flags, totals, matches);

@@ -13,7 +13,7 @@ ghost use mathlib.Core.Bool.{cond};
 ghost use Prim.Native.Nat.{suc};
 ghost use lib.Dec.{leb};
 ghost use Rattle.parity.specs.Claims.{mostSteps};
-ghost use Rattle.cycle_place.specs.Walk.{toldAt, MatrixLent};
+ghost use Rattle.cycle_place.specs.Walk.{toldAt, PaddedLent};
 ghost use Rattle.cycle_place.specs.declared.walk.Located.the-variants.{Elsewhere};
 ghost use Rattle.cycle.specs.Moves.{Movable};
 ghost use Rattle.cycle.specs.Record.{noPlace, openAt, completeAt, recordAt, isOpen, isNext};
@@ -140,8 +140,8 @@ impl Cycle {
     }
 
     // The lookup at the record's place, if the record is open there with that lookup still to come: question 9.
-    pub fn locate(self, shape: Shape, checks: usize, matrix: &[u8]) -> Located
-        requires { ⌜ MatrixLent shape checks (now matrix) ⌝ }
+    pub fn locate(self, shape: Shape, checks: usize, columns: usize, padded: &[u8]) -> Located
+        requires { ⌜ PaddedLent shape checks columns (now padded) ⌝ }
         ensures { λ r. ⌜ r ≡ cond (isNext shape self) (toldAt (self .skip) shape (self .count) (self .place)) Elsewhere ⌝ }
     {
         let place = self.place;
@@ -153,7 +153,7 @@ impl Cycle {
         if !self.within_longest() {
             return Located::Elsewhere;
         }
-        walk::locate(place, skip, count, shape, checks, matrix)
+        walk::locate(place, skip, count, shape, checks, columns, padded)
     }
 
     // The open record after a lookup, by the place of the next one.

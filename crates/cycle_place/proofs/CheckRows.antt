@@ -32,10 +32,10 @@ bits-high ℓ (c ∷ cs) = omega (arith, bit-below ℓ c, bits-high ℓ cs)
 pub places-high : (ℓ : ℕ) (cs : List ℕ) → length (placesFrom 0 ℓ cs) ≤ length cs
 places-high ℓ cs = rw (places-length 0 ℓ cs) (bits-high ℓ cs)
 
--- .. and so at most 255
-pub rows-high : (cs : List ℕ) → length cs ≤ 255 → (ℓ : ℕ) → sumTo ℓ (λ l. length (placesFrom 0 l cs)) ≤ 255 * ℓ
+-- .. and where no check row has more than 255, so many have at most 255 each
+pub rows-high : (cs : List ℕ) → ((l : ℕ) → length (placesFrom 0 l cs) ≤ 255) → (ℓ : ℕ) → sumTo ℓ (λ l. length (placesFrom 0 l cs)) ≤ 255 * ℓ
 rows-high cs h zero = omega arith
-rows-high cs h (suc ℓ) = omega (arith, rows-high cs h ℓ, places-high ℓ cs)
+rows-high cs h (suc ℓ) = omega (arith, rows-high cs h ℓ, h ℓ)
 
 -- the bit as the code takes it out of a column's number
 pub bit-tested : (ℓ c bound number : ℕ) → bound ≡ 2 ^ ℓ → number ≡ c → number / bound % 2 ≡ bit ℓ c

@@ -25,9 +25,9 @@ heldFrom matrix ℓ j = firstFrom (λ i. eqb (bit ℓ (getD matrix i 0)) 1) (len
 
 -- ---- what is asked
 
--- at most 255 columns, and one of 8 check rows
-pub record ColumnsLent (columnCount ℓ : ℕ) : Type 0 where
-  pub few : columnCount ≤ 255
+-- columns of which at most 255 have a one in a check row, and one of 8 check rows
+pub record ColumnsLent (columnBytes : List ℕ) (ℓ : ℕ) : Type 0 where
+  pub few : (l : ℕ) → length (placesFrom 0 l columnBytes) ≤ 255
   pub check : ℓ < 8
 
 -- the numbers of a place: q / ρ^z, ρ, a, which ρ does not divide, q / ρ^(s+1), and what the matrix tells

@@ -1,9 +1,10 @@
 -- Only serves the code's own contracts: where a test's place stands in the schedule, and what a step is told at the place after so many lookups.
 use mathlib.Core.Path.{_≡_}
 use mathlib.Core.Bool.{cond}
-use mathlib.Core.List.{List}
+use mathlib.Core.List.{List, _++_}
 use Prim.Native.Nat.{ℕ, zero, suc}
-use Rattle.parity.specs.Shape.{checks as checksOf}
+use lib.ListN.{replicate}
+use Rattle.parity.specs.Shape.{checks as checksOf, columns as columnsOf}
 use Rattle.parity.specs.Matrix.{matrix as matrixOf}
 use Rattle.parity.specs.Questions.{Taken}
 use Rattle.parity.specs.declared.Shape.{Shape}
@@ -53,6 +54,14 @@ pub record MatrixLent (s : Shape) (r : ℕ) (columnBytes : List ℕ) : Type 0 wh
   pub taken : Taken s
   pub checks : r ≡ checksOf s
   pub matrix : columnBytes ≡ matrixOf s
+
+-- the same with its n columns and zeros after the matrix
+pub record PaddedLent (s : Shape) (r n : ℕ) (columnBytes : List ℕ) : Type 0 where
+  pub taken : Taken s
+  pub checks : r ≡ checksOf s
+  pub columns : n ≡ columnsOf s
+  pub rest : ℕ
+  pub padded : columnBytes ≡ matrixOf s ++ replicate rest 0
 
 -- the place of a test, and q / ρ^s
 pub record TestAt (z : ℕ) (s : Shape) (p : Place) (reach : ℕ) : Type 0 where

@@ -26,7 +26,7 @@ fn mask_of(check: usize) -> u8
 
 // The columns with a one in check row ℓ. Counted in a byte, so that many columns are taken at once.
 fn count_held(matrix: &[u8], check: usize) -> usize
-    requires { ⌜ ColumnsLent (length (now matrix)) check ⌝ }
+    requires { ⌜ ColumnsLent (now matrix) check ⌝ }
     ensures { λ r. ⌜ r ≡ length (placesFrom 0 check (was matrix)) ⌝ }
 {
     let mask = mask_of(check);
@@ -42,7 +42,7 @@ fn count_held(matrix: &[u8], check: usize) -> usize
 }
 
 pub(crate) fn survey_check(matrix: &[u8], check: usize, column: usize) -> Survey
-    requires { ⌜ ColumnsLent (length (now matrix)) check ⌝ }
+    requires { ⌜ ColumnsLent (now matrix) check ⌝ }
     requires { ⌜ column ≤ length (now matrix) ⌝ }
     ensures { λ r. ⌜ r ≡ surveyOf (was matrix) check column ⌝ }
 {

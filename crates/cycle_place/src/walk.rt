@@ -15,7 +15,7 @@ ghost use Prim.Native.Nat.{ℕ, _<_};
 ghost use Rattle.parity.specs.Shape.{checks as checksOf};
 ghost use Rattle.cycle_place.specs.Places.{placeAt, nextAt, samePlace};
 ghost use Rattle.cycle_place.specs.declared.walk.Next.the-variants.{Place as NextPlace};
-ghost use Rattle.cycle_place.specs.Walk.{indexOf, soughtAt, hereAt, locatedAt, MatrixLent, TestAt};
+ghost use Rattle.cycle_place.specs.Walk.{indexOf, soughtAt, hereAt, locatedAt, MatrixLent, PaddedLent, TestAt};
 
 // Whether a test is found at a place, and q / ρ^s of its digit.
 pub(crate) enum Sought {
@@ -64,9 +64,10 @@ fn locate_test(
     count: usize,
     shape: Shape,
     checks: usize,
-    matrix: &[u8],
+    columns: usize,
+    padded: &[u8],
 ) -> Sought
-    requires { ⌜ MatrixLent shape checks (now matrix) ⌝ }
+    requires { ⌜ PaddedLent shape checks columns (now padded) ⌝ }
     requires { ⌜ 0 < count ⌝ }
     ensures { λ r. ⌜ r ≡ soughtAt skip shape count place ⌝ }
 {
@@ -84,10 +85,10 @@ fn locate_test(
     if digit < skip {
         return Sought::Elsewhere;
     }
-    if matrix.len() <= column {
+    if columns <= column {
         return Sought::Elsewhere;
     }
-    if wide(matrix[column]) / power_of_two(check) % 2 == 0 {
+    if wide(padded[column]) / power_of_two(check) % 2 == 0 {
         return Sought::Elsewhere;
     }
     let next = scale(1, radix, shape.digits - digit - 1);
@@ -95,7 +96,7 @@ fn locate_test(
     if !is_factor(factor, span, radix) {
         return Sought::Elsewhere;
     }
-    let survey = survey_check(matrix, check, column);
+    let survey = survey_check(padded, check, column);
     // q / ρ^z
     let levels = scale(span, radix, digit - skip);
     // the opening comes before the tests
@@ -198,16 +199,24 @@ pub fn locate(
     count: usize,
     shape: Shape,
     checks: usize,
-    matrix: &[u8],
+    columns: usize,
+    padded: &[u8],
 ) -> Located
-    requires { ⌜ MatrixLent shape checks (now matrix) ⌝ }
+    requires { ⌜ PaddedLent shape checks columns (now padded) ⌝ }
     ensures { λ r. ⌜ r ≡ locatedAt skip shape count place ⌝ }
 {
     if count == 0 {
-        return locate_opening(place, skip, shape, matrix);
+        return locate_opening(place, skip, shape, &padded[..columns]);
     }
-    match locate_test(place, skip, count, shape, checks, matrix) {
+    match locate_test(place, skip, count, shape, checks, columns, padded) {
         Sought::Elsewhere => Located::Elsewhere,
-        Sought::At(span) => Located::Test(follow(place, span, skip, shape, checks, matrix)),
+        Sought::At(span) => Located::Test(follow(
+            place,
+            span,
+            skip,
+            shape,
+            checks,
+            &padded[..columns],
+        )),
     }
 }

@@ -1,6 +1,7 @@
 // Many steps of an open cycle as one call: the questions are asked, the check matrix is made and the record's place is looked up
 // once for all of them.
 use acam::matrix::fill_matrix;
+use acam::matrix::padded_length;
 use array_questions::memory::check_lent;
 use cycle::Changed;
 use cycle::Cycle;
@@ -34,7 +35,7 @@ ghost use Rattle.array_memory.specs.Memory.{Memory};
 ghost use Rattle.array_questions.specs.Questions.{lentQuestions};
 ghost use Rattle.cycle_lookup.specs.Rows.{RowsLent};
 ghost use Rattle.cycle_passes.specs.Passes.{columnCells};
-ghost use Rattle.cycle_place.specs.Walk.{Stands, MatrixLent};
+ghost use Rattle.cycle_place.specs.Walk.{Stands, MatrixLent, PaddedLent};
 ghost use Rattle.cycle.specs.Calls.{stateOf};
 ghost use Rattle.cycle.specs.Methods.{changing, doneWith};
 ghost use Rattle.cycle_run.specs.Steps.{stepping, stepsCall};
@@ -155,13 +156,14 @@ fn make_tests(
     tested.cycle
 }
 
-// The steps by the check matrix: question 9, and then the lookups.
+// The steps by the check matrix, padded with 0: question 9, and then the lookups.
 fn steps_at(
     cycle: Cycle,
     most: usize,
     shape: Shape,
     checks: usize,
-    matrix: &[u8],
+    columns: usize,
+    padded: &[u8],
     cells: &[u8],
     lines: &[u8],
     counters: &mut [u8],
@@ -169,12 +171,12 @@ fn steps_at(
     totals: &mut [u8],
     matches: &mut [u8],
 ) -> Changed
-    requires { ⌜ MatrixLent shape checks (now matrix) ⌝ }
+    requires { ⌜ PaddedLent shape checks columns (now padded) ⌝ }
     requires { ⌜ firstNo (lentQuestions shape [] (allLengths (nowAll cells lines counters flags totals)) (length (now matches))) ≡ 0 ⌝ }
     ensures { λ r. ⌜ ((mem : Memory) → stepsCall shape (stateOf (wasAll cells lines counters flags totals mem) cycle) most (was matches)
         ≡ changing r (left matches) (leftAll cells lines counters flags totals mem)) ⌝ }
 {
-    match cycle.locate(shape, checks, matrix) {
+    match cycle.locate(shape, checks, columns, padded) {
         Located::Elsewhere => refused(cycle, 9),
         Located::Opening(next) => {
             if most == 0 {
@@ -186,7 +188,7 @@ fn steps_at(
                 most - 1,
                 shape,
                 checks,
-                matrix,
+                &padded[..columns],
                 cells,
                 lines,
                 counters,
@@ -200,7 +202,7 @@ fn steps_at(
             most,
             shape,
             checks,
-            matrix,
+            &padded[..columns],
             cells,
             lines,
             counters,
@@ -230,14 +232,16 @@ pub fn steps_lent(
 {
     let columns = sizes.columns;
     let checks = sizes.checks;
-    let mut matrix = [0u8; 255];
+    let padded = padded_length(columns);
+    let mut matrix = [0u8; 256];
     fill_matrix(&mut matrix[..columns], shape, checks);
     steps_at(
         cycle,
         most,
         shape,
         checks,
-        &matrix[..columns],
+        columns,
+        &matrix[..padded],
         cells,
         lines,
         counters,

@@ -1,21 +1,15 @@
 -- `acam::matrix::matrix_of` meets its contract: the columns in front, and 0 in what is left. Assumes nothing.
-use mathlib.Core.Path.{_≡_, sym, _∙_, ap}
+use mathlib.Core.Path.{sym, _∙_, ap}
 use mathlib.Core.List.{_++_}
-use Prim.Native.Nat.{ℕ, zero, suc, _+_, _-_, _≤_}
-use native.Mathlib.Nat.{sub-zero, zero-sub, suc-sub-suc}
+use Prim.Native.Nat.{_+_, _≤_}
 use native.Mathlib.Omega.{arith}
-use lib.ListN.{length, drop, replicate}
+use lib.ListN.{drop}
 use lib.Seq.{length-take-le}
 use Rattle.parity.specs.Shape.{columns}
 use Rattle.acam.specs.Matrices.{matrixArray}
-use Rattle.acam.proofs.MatrixArray.{zeros, wide, fits}
+use Rattle.acam.proofs.MatrixArray.{zeros, drop-replicate, wide, fits}
 use Rattle.acam.proofs.matrix.matrix_of.Statement.{statement}
 use Rattle.acam.proofs.matrix.matrix_of.Tie as tie
-
-drop-replicate : (n m a : ℕ) → drop n (replicate m a) ≡ replicate (m - n) a
-drop-replicate zero m a = rw sub-zero
-drop-replicate (suc n) zero a = rw zero-sub
-drop-replicate (suc n) (suc m) a = rw suc-sub-suc (drop-replicate n m a)
 
 -- n columns fit into the array
 few : (c : tie.Start) → c .args .shape .width + c .args .checks ≤ 255

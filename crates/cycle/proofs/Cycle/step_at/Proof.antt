@@ -7,9 +7,7 @@ use Prim.Native.Nat.{ℕ, suc, _<_}
 use lib.Dec.{lit<}
 use lib.ListN.{length}
 use borrow.Author.Needs.{needs}
-use Rattle.parity.specs.Shape.{columns}
 use Rattle.parity.specs.Questions.{Question, firstNo, Taken}
-use Rattle.parity.proofs.MatrixFacts.{matrixClaim}
 use Rattle.shape.proofs.Refusals.{first-rest}
 use Rattle.array_questions.specs.Questions.{lentQuestions}
 use Rattle.schedule.specs.Schedule.{Entry, opening}
@@ -88,10 +86,6 @@ module _ (c : tie.Start) where
   matches-sized : length (c .args .matches .now) ≡ c .args .shape .rows
   matches-sized = lent-matches (c .args .shape) (lent c noMemory) (length (c .args .matches .now)) (c .pre .1)
 
--- as many columns are lent as the shape has
-wide : (c : tie.Start) → length (c .args .matrix .now) ≡ columns (c .args .shape)
-wide c = ap length (c .pre .0 .matrix) ∙ matrixClaim (c .args .shape) (taken c) .sized
-
 opening-found :
     (c : tie.After-known-told) → let args = begun (located c .before) .args in
     (isNext (args .shape) (args .self) ≡ true) × (args .self .count ≡ 0) × (c .before .next .given .0 .0 ≡ nextAt (args .self .skip) (args .shape) 1)
@@ -164,7 +158,7 @@ make-test-requires c κs =
     let found = test-found told in (
       record {
         taken = taken start;
-        columns = wide start;
+        columns = start .pre .0 .columns;
         stands = next-place (start .args .shape) (taken start) self (found .1) (found .0) .0;
         ends = ap (λ here. here .ends) (found .2);
       },

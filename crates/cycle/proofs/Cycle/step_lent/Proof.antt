@@ -1,10 +1,12 @@
--- `cycle::Cycle::step_lent` meets its contract: the check matrix is made in an array, and `step_at` is lent that part of it. Assumes nothing.
+-- `cycle::Cycle::step_lent` meets its contract: the check matrix is made in an array of zeros, and `step_at` is lent it with
+-- some of the zeros. Assumes nothing.
 use mathlib.Core.Path.{_≡_, sym, ap, _∙_}
+use Prim.Native.Nat.{_-_}
 use lib.ListN.{length}
 use borrow.Author.Needs.{needs}
 use Rattle.parity.specs.Shape.{columns}
 use Rattle.parity.specs.Questions.{Taken}
-use Rattle.acam.proofs.MatrixArray.{part-fits, part-sized, part-within, part-made, part-length}
+use Rattle.acam.proofs.MatrixArray.{part-few, part-fits, part-sized, part-within, part-length, part-padded}
 use Rattle.array_memory.specs.Memory.{Memory, withAll, noMemory}
 use Rattle.cycle.proofs.Located.{lent-taken}
 use Rattle.cycle.proofs.Cycle.step_lent.Statement.{statement}
@@ -32,15 +34,18 @@ module _ (c : tie.Start) where
   wide : c .args .sizes .columns ≡ columns (c .args .shape)
   wide = ap (λ z. z .columns) (c .pre .sizes)
 
+padded-length-requires : tie.Need-padded-length-requires
+padded-length-requires c κs = let s = begun c in part-few (s .args .shape) (taken s) _ (wide s)
+
 array-borrow-prefix-matrix : tie.Need-array-borrow-prefix-matrix
-array-borrow-prefix-matrix c = let s = begun c in part-fits (s .args .shape) (taken s) _ (wide s)
+array-borrow-prefix-matrix c = let s = begun (c .before) in part-fits (s .args .shape) (taken s) _ (wide s)
 
 slice-aggregate-fill-matrix : tie.Need-slice-aggregate-fill-matrix
-slice-aggregate-fill-matrix c = let s = begun (c .before) in sym (part-sized (s .args .shape) (taken s) _ (wide s))
+slice-aggregate-fill-matrix c = let s = begun (c .before .before) in sym (part-sized (s .args .shape) (taken s) _ (wide s))
 
 fill-matrix-requires : tie.Need-fill-matrix-requires
 fill-matrix-requires c κs =
-    let s = begun (c .before) in
+    let s = begun (c .before .before) in
     record {
       taken = taken s;
       checks = ap (λ z. z .checks) (s .pre .sizes);
@@ -48,26 +53,34 @@ fill-matrix-requires c κs =
     }
 
 -- once the columns are made
+abbrev bounded : tie.After-matrix2 → tie.After-padded-length
+bounded c = c .before .before .before
+
 abbrev start : tie.After-matrix2 → tie.Start
-start c = begun (c .before .before .before)
+start c = begun (bounded c .before)
 
 array-share-prefix-matrix : tie.Need-array-share-prefix-matrix
-array-share-prefix-matrix c = let s = start c in part-within (s .args .shape) (taken s) _ (wide s) _ (c .before .fill-matrix .ensures)
+array-share-prefix-matrix c =
+    let s = start c in
+    part-within (s .args .shape) (taken s) _ (wide s) _ (c .before .fill-matrix .ensures) _ (bounded c .padded-length .ensures)
 
 slice-aggregate-step-at : tie.Need-slice-aggregate-step-at
 slice-aggregate-step-at c =
     let s = start (c .before) in
-    sym (part-length (s .args .shape) (taken s) _ (wide s) _ (c .before .before .fill-matrix .ensures))
+    sym (part-length (s .args .shape) (taken s) _ (wide s) _ (c .before .before .fill-matrix .ensures) _ (bounded (c .before) .padded-length .ensures))
 
 step-at-requires : tie.Need-step-at-requires
 step-at-requires c κs =
     let known = filled c .before in
     let s = start known in
-    let made = known .before .fill-matrix .ensures in (
+    let made = known .before .fill-matrix .ensures in
+    let bound = bounded known .padded-length in (
       record {
         taken = taken s;
         checks = ap (λ z. z .checks) (s .pre .sizes);
-        matrix = part-made (s .args .shape) (taken s) _ (wide s) _ made ∙ made;
+        columns = wide s;
+        rest = bound .result - s .args .sizes .columns;
+        padded = part-padded (s .args .shape) (taken s) _ (wide s) _ made _ (bound .ensures);
       },
       s .pre .none,
     )
@@ -91,6 +104,7 @@ pub step-lent-spec : {M : Type 1} → statement M
 step-lent-spec =
     tie.close
     (tie.spec
+    padded-length-requires
     array-borrow-prefix-matrix
     slice-aggregate-fill-matrix
     fill-matrix-requires

@@ -1,11 +1,11 @@
 -- `cycle_place::columns::count_held` meets its contract: the count so far is that of the columns passed. Assumes nothing.
 use mathlib.Core.Path.{_≡_, refl, _∙_, ap}
 use mathlib.Core.Logic.{⊎-elim}
-use Prim.Native.Nat.{_-_, _≤_}
+use Prim.Native.Nat.{suc, _-_, _≤_}
 use native.Mathlib.Numerals.{add-one}
 use native.Mathlib.Omega.{arith}
-use lib.ListN.{length, getD, take, length-take}
-use Rattle.cycle_place.proofs.CheckRows.{places-high, masked-one, masked-none, onesBefore, before-next, before-all}
+use lib.ListN.{length, getD}
+use Rattle.cycle_place.proofs.CheckRows.{masked-one, masked-none, onesBefore, before-next, before-all, before-high}
 use Rattle.cycle_place.proofs.columns.count_held.Statement.{statement}
 use Rattle.cycle_place.proofs.columns.count_held.Tie as tie
 
@@ -35,7 +35,16 @@ add-count : tie.Need-add-count Inv-loop μ-loop
 add-count c =
     let at = turn (c .before) in
     let args = begun at .args in
-    omega (arith, places-high (args .check) (take (at .loop .j) (args .matrix .now)), length-take (at .loop .j) (args .matrix .now))
+    let cs = args .matrix .now in
+    let j = at .loop .j in
+    let mask = at .before .mask-of in
+    omega (
+      arith,
+      before-next cs (args .check) j (omega arith),
+      masked-one (args .check) (getD cs j 0) (mask .result) (mask .ensures) (c .if1 .taken),
+      before-high cs (args .check) (suc j),
+      begun at .pre .few (args .check),
+    )
 
 add-j : tie.Need-add-j Inv-loop μ-loop
 add-j c = omega arith

@@ -6,7 +6,7 @@ use native.Mathlib.Omega.{arith}
 use lib.ListN.{length, length-take}
 use Rattle.parity.specs.Lists.{sumTo}
 use Rattle.parity.specs.Matrix.{placesFrom}
-use Rattle.cycle_place.proofs.CheckRows.{places-high, rows-high}
+use Rattle.cycle_place.proofs.CheckRows.{rows-high, before-high}
 use Rattle.cycle_place.proofs.columns.survey_check.Statement.{statement}
 use Rattle.cycle_place.proofs.columns.survey_check.Tie as tie
 
@@ -27,13 +27,14 @@ loop-holds : tie.Need-loop-holds Inv-loop μ-loop
 loop-holds c = (omega arith, refl)
 
 count-held-requires : tie.Need-count-held-requires Inv-loop μ-loop
-count-held-requires c κs = record { few = omega arith; check = omega arith }
+count-held-requires c κs = record { few = begun (c .before) .pre .0 .few; check = omega arith }
 
 add-before : tie.Need-add-before Inv-loop μ-loop
 add-before c =
-    let matrix = begun (c .before .before) .args .matrix .now in
+    let start = begun (c .before .before) in
+    let few = start .pre .0 .few in
     let l = c .before .before .loop .l in
-    omega (arith, c .count-held .ensures, rows-high matrix (omega arith) l, places-high l matrix)
+    omega (arith, c .count-held .ensures, rows-high (start .args .matrix .now) few l, few l)
 
 add-l : tie.Need-add-l Inv-loop μ-loop
 add-l c = omega arith
@@ -45,7 +46,7 @@ loop-again : tie.Need-loop-again Inv-loop μ-loop
 loop-again c = (omega arith, rw add-one (ap₂ _+_ (c .before .before .loop .inv .1) (c .count-held .ensures)))
 
 count-held-requires-2 : tie.Need-count-held-requires-2 Inv-loop μ-loop
-count-held-requires-2 c κs = record { few = omega arith; check = omega arith }
+count-held-requires-2 c κs = record { few = begun (c .before) .pre .0 .few; check = omega arith }
 
 slice-aggregate-count-held : tie.Need-slice-aggregate-count-held Inv-loop μ-loop
 slice-aggregate-count-held c =
@@ -54,8 +55,8 @@ slice-aggregate-count-held c =
 
 count-held-requires-3 : tie.Need-count-held-requires-3 Inv-loop μ-loop
 count-held-requires-3 c κs =
-    let args = begun (summed c) .args in
-    record { few = omega (arith, length-take (args .column) (args .matrix .now)); check = omega arith }
+    let start = begun (summed c) in
+    record { few = λ l. omega (arith, before-high (start .args .matrix .now) l (start .args .column), start .pre .0 .few l); check = omega arith }
 
 returns : tie.Need-returns Inv-loop μ-loop
 returns c =

@@ -4,6 +4,7 @@ use mathlib.Core.Path.{_≡_, refl, sym, ap, _∙_}
 use mathlib.Core.Bool.{Bool, true, false, cond}
 use Prim.Native.Nat.{ℕ, zero, suc, _<_}
 use native.Mathlib.Omega.{arith}
+use lib.Seq.{length-take-le}
 use borrow.Author.Needs.{needs}
 use Rattle.parity.specs.declared.Shape.{Shape}
 use Rattle.schedule.specs.Index.{span}
@@ -12,6 +13,7 @@ use Rattle.cycle_place.specs.Walk.{hereAt, toldAt, locatedAt}
 use Rattle.cycle_place.specs.declared.Place.{Place}
 use Rattle.cycle_place.specs.declared.walk.Sought.the-variants as soughts
 use Rattle.cycle_place.specs.declared.walk.Located.the-variants.{Test, Elsewhere}
+use Rattle.cycle_place.proofs.Padding.{padded-within, padded-matrix}
 use Rattle.cycle_place.proofs.Places.{AtPlace, place-at}
 use Rattle.cycle_place.proofs.walk.locate.Statement.{statement}
 use Rattle.cycle_place.proofs.walk.locate.Tie as tie
@@ -49,16 +51,19 @@ module _ (c : tie.After-known-told) where
   at : AtPlace (start .args .skip) (start .args .shape) (start .args .count) (start .args .place)
   at = place-at (start .args .skip) (start .args .shape) (start .pre .taken) (start .args .count) (omega arith) (start .args .place) (found .0)
 
+slice-aggregate-locate-opening : tie.Need-slice-aggregate-locate-opening
+slice-aggregate-locate-opening c = sym (length-take-le _ _ (padded-within (c .before .before .before .pre)))
+
 locate-opening-requires : tie.Need-locate-opening-requires
 locate-opening-requires c κs =
-    let given = c .before .before .pre in
+    let given = padded-matrix (c .before .before .before .pre) in
     record { taken = given .taken; checks = refl; matrix = given .matrix }
 
 -- the first lookup
 returns : tie.Need-returns
 returns c =
-    let args = c .before .before .before .args in
-    c .locate-opening .ensures ∙ ap (λ count. locatedAt (args .skip) (args .shape) count (args .place)) (sym (c .before .if1 .taken))
+    let args = c .before .before .before .before .args in
+    c .locate-opening .ensures ∙ ap (λ count. locatedAt (args .skip) (args .shape) count (args .place)) (sym (c .before .before .if1 .taken))
 
 locate-test-requires : tie.Need-locate-test-requires
 locate-test-requires c κs = (c .before .before .pre, omega arith)
@@ -69,8 +74,11 @@ enum-told c = search needs
 enum-known-span : tie.Need-enum-known-span
 enum-known-span c = search needs
 
+slice-aggregate-follow : tie.Need-slice-aggregate-follow
+slice-aggregate-follow c = sym (length-take-le _ _ (padded-within (start (c .before) .pre)))
+
 follow-requires : tie.Need-follow-requires
-follow-requires c κs = (start c .pre, record { stands = at c .0; span = found c .1 })
+follow-requires c κs = let known = c .before in (padded-matrix (start known .pre), record { stands = at known .0; span = found known .1 })
 
 -- another place
 returns-2 : tie.Need-returns-2
@@ -84,7 +92,7 @@ returns-2 c =
 -- a test
 returns-3 : tie.Need-returns-3
 returns-3 c =
-    let known = c .before in
+    let known = c .before .before in
     let args = start known .args in
     let z = args .skip in
     let s = args .shape in
@@ -95,11 +103,13 @@ pub locate-spec : {M : Type 1} → statement M
 locate-spec =
     tie.close
     (tie.spec
+    slice-aggregate-locate-opening
     locate-opening-requires
     returns
     locate-test-requires
     enum-told
     enum-known-span
+    slice-aggregate-follow
     follow-requires
     returns-2
     returns-3)

@@ -31,6 +31,7 @@ use Rattle.cycle_place.specs.declared.Place.{Place}
 use Rattle.cycle_place.specs.declared.columns.Survey.{Survey}
 use Rattle.cycle_place.specs.declared.walk.Sought.the-variants.{At, Elsewhere}
 use Rattle.cycle_place.proofs.CheckRows.{places-high, rows-high, bit-tested}
+use Rattle.cycle_place.proofs.Padding.{padded-within, padded-column, padded-survey, padded-lent}
 use Rattle.cycle_place.proofs.Spans.{span-high, span-times, span-power, span-down, span-less}
 use Rattle.cycle_place.proofs.Places.{AtPlace, place-entry, place-at, at-place}
 use Rattle.cycle_place.proofs.walk.locate_test.Statement.{statement}
@@ -55,7 +56,7 @@ survey-high cs ℓ j e fits rows =
       ap (λ z. z .before) e,
       ap (λ z. z .size) e,
       ap (λ z. z .rank) e,
-      rows-high cs fits ℓ,
+      rows-high cs (λ l. omega (arith, places-high l cs)) ℓ,
       places-high ℓ cs,
       places-high ℓ (take j cs),
       length-take j cs,
@@ -90,8 +91,8 @@ module _ (c : tie.Start) where
   all-checks : c .args .checks ≡ checks shape
   all-checks = c .pre .0 .checks
 
-  all-columns : length (c .args .matrix .now) ≡ columns shape
-  all-columns = ap length (c .pre .0 .matrix) ∙ matrixClaim shape taken .sized
+  all-columns : c .args .columns ≡ columns shape
+  all-columns = c .pre .0 .columns
 
   checks-high : checks shape ≤ 8
   checks-high = redundancyClaim shape taken .high
@@ -141,8 +142,10 @@ bit-read :
     → c .before .wide .result / c .power-of-two .result % 2
     ≡ (let s = counted (c .before .before .before) in bit (place s .check) (getD (matrix (shape s)) (place s .column) 0))
 bit-read c =
-    let s = counted (c .before .before .before) in
-    bit-tested (place s .check) _ _ _ (c .power-of-two .ensures) (c .before .wide .ensures ∙ ap (λ cs. getD cs (place s .column) 0) (s .pre .0 .matrix))
+    let x = c .before .before .before in
+    let s = counted x in
+    bit-tested (place s .check) _ _ _ (c .power-of-two .ensures)
+    (c .before .wide .ensures ∙ padded-column (s .pre .0) (place s .column) (omega (arith, x .if4 .left)))
 
 -- the spans of the next digit and of the own one, as the code makes them
 abbrev scaled : tie.After-scale → tie.Else4
@@ -178,8 +181,9 @@ survey :
     (c : tie.After-survey-check)
     → let s = counted (ranged (held (c .before))) in c .survey-check .result ≡ surveyOf (matrix (shape s)) (place s .check) (place s .column)
 survey c =
-    let s = counted (ranged (held (c .before))) in
-    c .survey-check .ensures ∙ ap (λ cs. surveyOf cs (place s .check) (place s .column)) (s .pre .0 .matrix)
+    let x = ranged (held (c .before)) in
+    let s = counted x in
+    c .survey-check .ensures ∙ padded-survey (s .pre .0) (place s .check) (place s .column) (omega (arith, x .if4 .left))
 
 -- q / ρ^z, from the own span
 module _ (c : tie.Else6) where
@@ -229,7 +233,7 @@ returns-4 c =
     misplaced s (λ at. omega (arith, at .0 .column, all-columns s))
 
 shared-slice-read-wide : tie.Need-shared-slice-read-wide
-shared-slice-read-wide c = search needs
+shared-slice-read-wide c = omega (arith, c .before .if4 .left, padded-within (counted (c .before) .pre .0))
 
 wide-requires : tie.Need-wide-requires
 wide-requires c κs = search needs
@@ -275,10 +279,8 @@ returns-6 c =
 survey-check-requires : tie.Need-survey-check-requires
 survey-check-requires c κs =
     let x = ranged (held c) in
-    let s = counted x in (
-      record { few = omega (arith, all-columns s, columns-high (shape s) (taken s)); check = check-high x },
-      omega (arith, x .if4 .left),
-    )
+    let s = counted x in
+    (padded-lent (s .pre .0) (place s .check) (check-high x), omega (arith, x .if4 .left, padded-within (s .pre .0)))
 
 -- q / ρ^z is at most 256
 scale-requires-2 : tie.Need-scale-requires-2

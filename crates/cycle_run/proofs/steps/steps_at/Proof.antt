@@ -7,6 +7,7 @@ use Prim.Native.Nat.{ℕ, suc, _-_, _<_}
 use native.Mathlib.Omega.{arith}
 use lib.Dec.{lit<}
 use lib.ListN.{length}
+use lib.Seq.{length-take-le}
 use borrow.Author.Needs.{needs}
 use Rattle.parity.specs.Matrix.{cycleSteps}
 use Rattle.parity.specs.Questions.{Question, firstNo, Taken}
@@ -21,9 +22,10 @@ use Rattle.array_memory.specs.Memory.{Memory, withAll, noMemory}
 use Rattle.array_questions.specs.Questions.{lentQuestions}
 use Rattle.cycle_place.specs.Places.{nextAt}
 use Rattle.cycle_place.proofs.Following.{place-first}
+use Rattle.cycle_place.proofs.Padding.{padded-within, padded-matrix}
 use Rattle.cycle_place.proofs.Places.{place-entry}
 use Rattle.cycle_lookup.specs.Lookup.{entryMatches, lookedUp}
-use Rattle.cycle.specs.Calls.{State, stateOf, stepMatches, steppedMemory, stepped}
+use Rattle.cycle.specs.Calls.{stateOf, stepMatches, steppedMemory, stepped}
 use Rattle.cycle.specs.Methods.{changing, doneWith}
 use Rattle.cycle.specs.Record.{recordAt, cycleAt, nextEntry, isNext, cycleQuestion}
 use Rattle.cycle.specs.declared.Changed.{Changed}
@@ -71,7 +73,7 @@ abbrev opened : tie.After-slice-known7 → tie.After-make-opening
 opened c = opening-back c .before .before
 
 abbrev moved : tie.After-make-tests → tie.After-moved
-moved c = c .before .before .before .before .before
+moved c = c .before .before .before .before .before .before
 
 abbrev going-back : tie.After-slice-known11 → tie.After-slice-known9
 going-back c = c .before .before .before .before
@@ -80,7 +82,7 @@ abbrev went : tie.After-slice-known11 → tie.After-make-tests
 went c = going-back c .before .before .before .before
 
 abbrev tests-told : tie.After-make-tests2 → tie.After-known-told2
-tests-told c = c .before .before .before .before .before
+tests-told c = c .before .before .before .before .before .before
 
 abbrev tests-back : tie.After-slice-known15 → tie.After-slice-known13
 tests-back c = c .before .before .before .before
@@ -253,10 +255,13 @@ moved-requires c κs =
 sub-make-tests : tie.Need-sub-make-tests
 sub-make-tests c = omega (arith, made c .before .before .before .before .if1 .left)
 
+slice-aggregate-make-tests : tie.Need-slice-aggregate-make-tests
+slice-aggregate-make-tests c = sym (length-take-le _ _ (padded-within (start (c .before) .pre .0)))
+
 make-tests-requires : tie.Need-make-tests-requires
 make-tests-requires c κs =
-    let after = c .before .before .before .before in (
-      start after .pre .0,
+    let after = c .before .before .before .before .before in (
+      padded-matrix (start after .pre .0),
       (
         record { memory = left-sized after; matches = made after .make-opening .kept .1 .1 .1 .0 ∙ matches-sized (start after) },
         tests-left after,
@@ -269,13 +274,16 @@ done-requires-2 c κs = search needs
 enum-known-here : tie.Need-enum-known-here
 enum-known-here c = search needs
 
+slice-aggregate-make-tests-2 : tie.Need-slice-aggregate-make-tests-2
+slice-aggregate-make-tests-2 c = sym (length-take-le _ _ (padded-within (begun (located-test (c .before)) .pre .0)))
+
 make-tests-requires-2 : tie.Need-make-tests-requires-2
 make-tests-requires-2 c κs =
-    let told = c .before .before .before .before in
+    let told = c .before .before .before .before .before in
     let s = begun (located-test told) in
     let found = test-found told in
     let stands = next-record (shape s) (taken s) (cycle s) (found .0) in (
-      s .pre .0,
+      padded-matrix (s .pre .0),
       (
         record { memory = sized s; matches = matches-sized s },
         record { partial = stands .0; opened = found .1; more = stands .1; stands = stands .2 },
@@ -351,9 +359,11 @@ steps-at-spec =
     make-opening-requires
     moved-requires
     sub-make-tests
+    slice-aggregate-make-tests
     make-tests-requires
     done-requires-2
     enum-known-here
+    slice-aggregate-make-tests-2
     make-tests-requires-2
     done-requires-3
     returns-2
