@@ -12,7 +12,7 @@ use Rattle.shape.proofs.Refusals.{length-lent}
 use Rattle.array_memory.specs.Blocks.{blocks}
 use Rattle.array_memory.specs.Memory.{Memory, withArray}
 use Rattle.array_memory.specs.Lengths.{cellsWanted, linesWanted, arrayWanted, flaggedWanted, rowsWanted, allWanted, RowsSized, Sized}
-use Rattle.array_memory.specs.Lengths.{flaggedLengths, rowsLengths, allLengths}
+use Rattle.array_memory.specs.Lengths.{rowsLengths, allLengths}
 
 module _ (s : Shape) where
   -- the cells, the lines, and flags and totals, by their numbers
@@ -50,7 +50,6 @@ module _ (s : Shape) (mem : Memory) where
 
     pub array-lent : lengthsQuestion (length (mem .cells) ∷ length (mem .lines) ∷ []) (arrayWanted s) .holds ≡ true
     array-lent = equal-alongside _ _ (λ i. z .cells i ∷ z .lines i ∷ [])
-
 
     pub rows-lent : lengthsQuestion (rowsLengths mem) (rowsWanted s) .holds ≡ true
     rows-lent = equal-alongside _ _ (λ i. z .rows .counters i ∷ z .rows .flags i ∷ z .rows .totals i ∷ [])

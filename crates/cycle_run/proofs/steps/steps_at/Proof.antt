@@ -15,7 +15,6 @@ use Rattle.parity.specs.declared.Shape.{Shape}
 use Rattle.shape.specs.Answers.{accepted, giving}
 use Rattle.shape.proofs.Calling.{call-done}
 use Rattle.shape.proofs.Refusals.{first-rest}
-use Rattle.schedule.specs.Schedule.{opening}
 use Rattle.array_memory.specs.Blocks.{blocksOf}
 use Rattle.array_memory.specs.Lengths.{allLengths, Sized}
 use Rattle.array_memory.specs.Memory.{Memory, withAll, noMemory}
