@@ -74,11 +74,10 @@ pub fn make_test(
 }
 
 // The same but for the match bytes, which are not asked for: in their place stand the cells of the test's column, and are taken
-// anew, from either end, only where another column is held. The counters are below ρ, and `unit` is ρ^s.
+// anew only where another column is held. The counters are below ρ, and `unit` is ρ^s.
 pub fn count_test(
     place: Place,
     held: usize,
-    up: bool,
     unit: usize,
     skip: usize,
     shape: Shape,
@@ -102,7 +101,7 @@ pub fn count_test(
     let digit = place.digit;
     let column = place.column;
     let input = (place.factor * unit) as u8;
-    hold_column(cells, columns, column, held, up, matches);
+    hold_column(cells, columns, column, held, matches);
     count_column(counters, lines, matches, input, radix);
     end_test(ends, digit <= skip, counters, flags, totals);
 }

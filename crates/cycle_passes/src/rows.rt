@@ -11,7 +11,7 @@ ghost use Rattle.shape.specs.Lent.{was, left};
 ghost use Rattle.cycle_passes.specs.Passes.{columnCells, reducedBytes, columnMatches, countedBytes, overwrittenBytes, ColumnLent, ToCount};
 
 // The cells of one column, row after row, from the first.
-fn take_down(cells: &[u8], columns: usize, column: usize, bytes: &mut [u8])
+pub fn take_down(cells: &[u8], columns: usize, column: usize, bytes: &mut [u8])
     requires { ⌜ ColumnLent (length (now cells)) columns column (length (now bytes)) ⌝ }
     ensures { λ _. ⌜ left bytes ≡ columnCells columns column (was cells) (length (was bytes)) ⌝ }
 {
@@ -38,7 +38,7 @@ fn take_up(cells: &[u8], columns: usize, column: usize, bytes: &mut [u8])
     }
 }
 
-// The same, from either end. A column after another is best taken from the end at which that one was left, where the cells
+// The same, from either end: a column after another is best taken from the end at which that one was left, where the cells
 // are at hand still.
 pub fn take_column(cells: &[u8], columns: usize, column: usize, up: bool, bytes: &mut [u8])
     requires { ⌜ ColumnLent (length (now cells)) columns column (length (now bytes)) ⌝ }
@@ -52,14 +52,7 @@ pub fn take_column(cells: &[u8], columns: usize, column: usize, up: bool, bytes:
 }
 
 // The same, where the bytes are those of the column that is held: nothing is to be done if it is this one.
-pub fn hold_column(
-    cells: &[u8],
-    columns: usize,
-    column: usize,
-    held: usize,
-    up: bool,
-    bytes: &mut [u8],
-)
+pub fn hold_column(cells: &[u8], columns: usize, column: usize, held: usize, bytes: &mut [u8])
     requires { ⌜ ColumnLent (length (now cells)) columns column (length (now bytes)) ⌝ }
     requires { ⌜ (column ≡ held → now bytes ≡ columnCells columns column (now cells) (length (now bytes))) ⌝ }
     ensures { λ _. ⌜ left bytes ≡ columnCells columns column (was cells) (length (was bytes)) ⌝ }
@@ -67,7 +60,7 @@ pub fn hold_column(
     if column == held {
         return;
     }
-    take_column(cells, columns, column, up, bytes);
+    take_down(cells, columns, column, bytes);
 }
 
 // Any bytes count by their remainders. Counters below ρ, as accepted steps leave them, are their own.

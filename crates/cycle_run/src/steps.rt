@@ -11,7 +11,7 @@ use cycle_lookup::column::count_test;
 use cycle_lookup::opening::make_opening;
 use cycle_passes::rows::match_column;
 use cycle_passes::rows::reduce_rows;
-use cycle_passes::rows::take_column;
+use cycle_passes::rows::take_down;
 use cycle_place::Place;
 use cycle_place::digits::digit_of;
 use cycle_place::digits::hold_digit;
@@ -77,7 +77,6 @@ fn count_tests(
     let mut now = cycle;
     let mut last = cycle.place;
     let mut digit = digit_of(shape, last.digit);
-    let mut up = false;
     let mut left = most;
     while 0 < left && now.is_open() {
         let place = now.place;
@@ -85,11 +84,9 @@ fn count_tests(
         let here = follow(place, digit.span, skip, shape, checks, matrix);
         let ends = here.ends;
         let next = here.next;
-        up = if place.column == last.column { up } else { !up };
         count_test(
             place,
             last.column,
-            up,
             digit.unit,
             skip,
             shape,
@@ -136,7 +133,7 @@ fn make_tests(
     let radix = shape.radix;
     let column = cycle.place.column;
     reduce_rows(counters, radix);
-    take_column(cells, matrix.len(), column, false, matches);
+    take_down(cells, matrix.len(), column, matches);
     let tested = count_tests(
         cycle,
         most,

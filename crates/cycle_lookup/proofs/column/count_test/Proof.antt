@@ -61,7 +61,7 @@ module _ (c : tie.After-count-column) where
   -- the test's match bytes, by the cells that are held
   matches-made :
       (mem : Memory)
-      → columnMatches (start .args .place .factor * start .args .unit) (start .args .lines .now) (hold .hold-column .last .1 .1 .1 .1 .1 .0)
+      → columnMatches (start .args .place .factor * start .args .unit) (start .args .lines .now) (hold .hold-column .last .1 .1 .1 .1 .0)
       ≡ entryMatches (start .args .shape) (testOf (start .args .skip) (start .args .shape) (start .args .place))
       (withArray (start .args .cells .now) (start .args .lines .now) mem)
   matches-made mem =

@@ -7,8 +7,8 @@ use Rattle.cycle_passes.proofs.rows.hold_column.Tie as tie
 returns : tie.Need-returns
 returns c = c .before .before .before .pre .1 (c .if1 .taken)
 
-take-column-requires : tie.Need-take-column-requires
-take-column-requires c κs = search needs
+take-down-requires : tie.Need-take-down-requires
+take-down-requires c κs = search needs
 
 same-length : tie.Need-same-length
 same-length c = search needs
@@ -18,4 +18,4 @@ returns-2 : tie.Need-returns-2
 returns-2 c = search needs
 
 pub hold-column-spec : {M : Type 1} → statement M
-hold-column-spec = tie.close (tie.spec returns take-column-requires same-length returns-2)
+hold-column-spec = tie.close (tie.spec returns take-down-requires same-length returns-2)

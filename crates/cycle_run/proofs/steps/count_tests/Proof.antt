@@ -31,7 +31,7 @@ use Rattle.cycle_run.proofs.steps.count_tests.Statement.{statement}
 use Rattle.cycle_run.proofs.steps.count_tests.Tie as tie
 
 abbrev Inv-loop : tie.InvT-loop
-Inv-loop k s r cs cells lines counters₀ flags₀ totals₀ matches₀ n z now₀ last₀ digit₀ up₀ left₀ counters flags totals matches now last digit up left =
+Inv-loop most s r cs cells lines counters₀ flags₀ totals₀ matches₀ n z now₀ last₀ digit₀ left₀ counters flags totals matches now last digit left =
     Held z s cells lines counters flags totals matches now last
     × (digit ≡ digitAt s (digit .number))
     × ((mem : Memory)
@@ -39,7 +39,7 @@ Inv-loop k s r cs cells lines counters₀ flags₀ totals₀ matches₀ n z now�
     ≡ stepping s left (testedAt z s last (withAll cells lines counters flags totals mem) now))
 
 abbrev μ-loop : tie.MeasureT-loop
-μ-loop k s r cs cells lines counters₀ flags₀ totals₀ matches₀ n z now₀ last₀ digit₀ up₀ left₀ counters flags totals matches now last digit up left =
+μ-loop most s r cs cells lines counters₀ flags₀ totals₀ matches₀ n z now₀ last₀ digit₀ left₀ counters flags totals matches now last digit left =
     left
 
 -- the places of the call and of a turn, each from one that follows
@@ -55,11 +55,8 @@ looped c = c .before .before .before
 abbrev turn : tie.After-follow Inv-loop μ-loop → tie.Then1 Inv-loop μ-loop
 turn c = c .before .before .before
 
-abbrev followed : tie.Joined2 Inv-loop μ-loop → tie.After-follow Inv-loop μ-loop
-followed c = c .before .before .before
-
 abbrev following : tie.After-count-test Inv-loop μ-loop → tie.After-follow Inv-loop μ-loop
-following c = followed (c .before .before .before .before .before)
+following c = c .before .before .before .before .before
 
 abbrev tested : tie.After-slice-known8 Inv-loop μ-loop → tie.After-count-test Inv-loop μ-loop
 tested c = c .before .before .before .before .before .before .before .before
@@ -145,7 +142,7 @@ follow-requires c κs =
 
 count-test-requires : tie.Need-count-test-requires Inv-loop μ-loop
 count-test-requires c κs =
-    let follow = followed (c .before .before .before .before) in
+    let follow = c .before .before .before .before in
     let turning = turn follow in
     let begin = start turning in (
       record {

@@ -34,13 +34,13 @@ known c = c .before .before .before .before
 abbrev begun : tie.Else1 → tie.Start
 begun c = known (c .before) .before .before .before
 
-abbrev reduced : tie.After-take-column-arg → tie.After-reduce-rows
+abbrev reduced : tie.After-take-down-arg → tie.After-reduce-rows
 reduced c = c .before .before .before
 
 abbrev some : tie.After-reduce-rows → tie.Else1
 some c = c .before .before
 
-abbrev took : tie.After-count-tests-arg → tie.After-take-column
+abbrev took : tie.After-count-tests-arg → tie.After-take-down
 took c = c .before .before .before
 
 abbrev totalled : tie.After-last → tie.After-slice-known8
@@ -61,7 +61,7 @@ module _ (c : tie.Start) where
   wide : length (c .args .matrix .now) ≡ columnsOf shape
   wide = ap length (c .pre .0 .matrix) ∙ matrixClaim shape taken .sized
 
-module _ (c : tie.After-take-column) where
+module _ (c : tie.After-take-down) where
   abbrev entry : tie.Start
   entry = begun (some (reduced (c .before)))
 
@@ -69,8 +69,8 @@ module _ (c : tie.After-take-column) where
   counters-sized = ap length (reduced (c .before) .reduce-rows .ensures) ∙ length-tabulate (length (entry .args .counters .now)) _
       ∙ entry .pre .1 .0 .memory .rows .counters
 
-  matches-sized : length (c .take-column .last .1 .1 .1 .1 .0) ≡ shape entry .rows
-  matches-sized = ap length (c .take-column .ensures) ∙ length-tabulate (length (entry .args .matches .now)) _ ∙ entry .pre .1 .0 .matches
+  matches-sized : length (c .take-down .last .1 .1 .1 .0) ≡ shape entry .rows
+  matches-sized = ap length (c .take-down .ensures) ∙ length-tabulate (length (entry .args .matches .now)) _ ∙ entry .pre .1 .0 .matches
 
 -- ---- the last test
 
@@ -106,9 +106,9 @@ reduce-rows-requires c κs =
     let limit = limits (shape start) (taken start) in
     record { low = omega arith; high = omega arith }
 
-take-column-requires : tie.Need-take-column-requires
+take-down-requires : tie.Need-take-down-requires
 unfolding cellCount
-take-column-requires c κs =
+take-down-requires c κs =
     let start = begun (some (reduced c)) in
     let place = test-place (shape start) (taken start) (start .args .cycle) (start .pre .1 .1) .0 in
     record {
@@ -138,7 +138,7 @@ count-tests-requires c κs =
           begin .pre .1 .1,
           record {
             column =
-                taking .take-column .ensures
+                taking .take-down .ensures
                 ∙ ap₂ (λ n m. columnCells n (begin .args .cycle .place .column) (begin .args .cells .now) m) (wide begin)
                 (begin .pre .1 .0 .matches ∙ sym (matches-sized taking));
             below = λ i h.
@@ -212,7 +212,7 @@ make-tests-spec =
     (tie.spec
     returns
     reduce-rows-requires
-    take-column-requires
+    take-down-requires
     count-tests-requires
     scale-requires
     cast-input
