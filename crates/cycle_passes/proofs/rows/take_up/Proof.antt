@@ -22,15 +22,18 @@ room (suc m) n j top big h le small double = omega arith
 
 -- row i − 1 of the column: its cell is columns before, and within the cells
 module _ (c : tie.In-loop Inv-loop μ-loop) where
+  abbrev columns : ℕ
+  columns = c .before .before .args .columns
+
   abbrev row : ℕ
   row = c .before .loop .i - 1
 
-  before : c .before .loop .i * c .before .before .args .columns ≡ row * c .before .before .args .columns + c .before .before .args .columns
+  before : c .before .loop .i * columns ≡ row * columns + columns
   before =
       let own : c .before .loop .i ≡ suc row = omega arith in
-      omega (arith, ap (λ i. i * c .before .before .args .columns) own)
+      omega (arith, ap (λ i. i * columns) own)
 
-  within : row * c .before .before .args .columns + c .before .before .args .column < length (c .before .before .args .bytes .now) * c .before .before .args .columns
+  within : row * columns + c .before .before .args .column < length (c .before .before .args .bytes .now) * columns
   within = digits-lt (omega (arith, c .before .loop .inv .1 .within)) (omega arith)
 
 mul-at : tie.Need-mul-at Inv-loop μ-loop
