@@ -1,4 +1,4 @@
-// The library's calls for C on x86-64. `rt staticlib ffi` makes target/staticlib/libffi.a to link.
+// The library's calls for C on x86-64. `rt staticlib jorivelune` makes target/staticlib/libjorivelune.a to link.
 //
 // Each call answers with the number of document 01's first question that fails, 0 where it is taken. A refused
 // call leaves the record and every buffer as they were. A buffer comes with its length, and any length may be

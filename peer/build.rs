@@ -17,11 +17,11 @@ fn main() {
     compile_loops();
 }
 
-/// The folder of the archive that `rt staticlib ffi` makes is searched by the
+/// The folder of the archive that `rt staticlib jorivelune` makes is searched by the
 /// targets that link it.
 fn find_library() {
     let folder = variable("CARGO_MANIFEST_DIR").join("../target/staticlib");
-    let archive = folder.join("libffi.a");
+    let archive = folder.join("libjorivelune.a");
     if archive.is_file() {
         println!("cargo:rerun-if-changed={}", archive.display());
         println!("cargo:rustc-link-search=native={}", folder.display());

@@ -8,10 +8,10 @@ const PROGRAM: &str = "tests/in_c/calls.c";
 
 #[test]
 fn a_program_in_c_makes_the_calls_by_the_header() {
-    let archive = Path::new("../target/staticlib/libffi.a");
+    let archive = Path::new("../target/staticlib/libjorivelune.a");
     assert!(
         archive.is_file(),
-        "target/staticlib/libffi.a is missing: run rt staticlib ffi"
+        "target/staticlib/libjorivelune.a is missing: run rt staticlib jorivelune"
     );
     let program = Path::new(env!("CARGO_TARGET_TMPDIR")).join("calls");
     let compiler = std::env::var("CC").unwrap_or("cc".into());

@@ -4,7 +4,7 @@ use peer::testing::records::Words;
 use peer::Shape;
 
 /// What the calls say where there is no archive.
-const MISSING: &str = "target/staticlib/libffi.a is missing: run rt staticlib ffi";
+const MISSING: &str = "target/staticlib/libjorivelune.a is missing: run rt staticlib jorivelune";
 
 /// The shape as it crosses.
 #[repr(C)]
@@ -33,7 +33,7 @@ impl From<Shape> for Numbers {
 macro_rules! linked {
     ($(fn $name:ident($($argument:ident: $kind:ty),* $(,)?) -> u8;)*) => {
         #[cfg(proved)]
-        #[link(name = "ffi", kind = "static")]
+        #[link(name = "jorivelune", kind = "static")]
         extern "C" {
             $(pub fn $name($($argument: $kind),*) -> u8;)*
         }
