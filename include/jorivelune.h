@@ -1,82 +1,128 @@
-// The library's calls for C on x86-64. `rt staticlib jorivelune` makes target/staticlib/libjorivelune.a to link.
+// The library's calls for C and C++ on x86-64. `rt staticlib jorivelune` makes target/staticlib/libjorivelune.a.
+// jorivelune_head.h beside this file has the same calls on one struct that holds shape, record and buffers.
 //
-// Each call answers with the number of document 01's first question that fails, 0 where it is taken. A refused
-// call leaves the record and every buffer as they were. A buffer comes with its length, and any length may be
-// given: question 6 refuses a wrong one.
+// Each call answers 0 where it is taken, or the number of the first question that fails (enum jorivelune_refusal). A
+// refused call leaves the record and every buffer as they were, and every number that it would answer is 0.
+//
+// A shape is rho, b, tau, k and m: the radix, the digits of a level, the changed cells per row that are caught, the
+// rule columns and the rows. From it follow, as jorivelune_sizes tells, q = rho to the power b levels, r check columns,
+// n = k + r columns, m x n cells, blocks of 64 rows, and the steps of a cycle. The buffers:
+//
+//   buffer    bytes          written by                     a byte is
+//   cells     m x n          clear, program, commit, drift  a level below q; in each row k rule cells, r check cells
+//   lines     m              clear, line                    the row's match line: 0 is sound, any other dead
+//   counters  m              clear, start, steps            what the open check row has counted, modulo rho
+//   flags     m              clear, start, steps            1 where the row is flagged, else 0
+//   totals    (m + 63) / 64  clear, start, steps            the flagged rows of a block of 64 rows
+//   matches   m              steps, lookup                  1 where the row matched the last vector, else 0
+//   levels    k              the caller                     a level below q: the rule cells of a row
+//   inputs    k              the caller                     an input below q: what a lookup feeds the rule columns
+//   finished  n              ask, then the caller's         a cell of a row that is ready to be committed
+//   out       k              read                           a rule cell of a row
+//
+// "Steps" are jorivelune_step, jorivelune_steps and jorivelune_run. Every buffer comes with its length. Any length may
+// be given: question 6 refuses a wrong one.
 //
 // What a caller owes, since no call can ask for it:
-// - each pointer is valid for the length that is given with it, for reading, and for writing where it is not const,
-//   also where the length is 0;
+// - each pointer is valid for the length that is given with it, for reading, and for writing where it is not const; it
+//   is not NULL, also where the length is 0 (the calls of jorivelune_head.h take NULL);
 // - no two buffers of one call overlap, nor does the record or an answer lie in a buffer;
-// - the record and the pointers for answers (changed, count, found, holds, total, first, read) are writable and aligned.
+// - the record and the pointers for answers (size_t *, bool *) are valid, writable and aligned, no two the same.
 #ifndef JORIVELUNE_H
 #define JORIVELUNE_H
 
+#if !defined(__x86_64__) || defined(__ILP32__) || defined(_WIN32)
+#error "libjorivelune.a is built for x86-64 with 64-bit pointers and the System V calling convention"
+#endif
+
+#include <assert.h>
 #include <stdbool.h>
 #include <stddef.h>
 #include <stdint.h>
+
+#include "jorivelune_refusals.h"
 
 #ifdef __cplusplus
 extern "C" {
 #endif
 
-// The shape of an array: rho, b, tau, k and m. Any numbers may be given: questions 1 to 5 say which are taken.
-struct jorivelune_shape {
-    size_t radix;
-    size_t digits;
-    size_t errors;
-    size_t width;
-    size_t rows;
+// What a call answers: JORIVELUNE_TAKEN, or which question failed.
+enum jorivelune_refusal {
+#define JORIVELUNE_NUMBERED(name, number, words) name = number,
+    JORIVELUNE_REFUSALS(JORIVELUNE_NUMBERED)
+#undef JORIVELUNE_NUMBERED
 };
 
-// The cycle record: seven words. The phase is 0 idle, 1 open or 2 complete; any other is read as idle. Check, digit, column
-// and factor are the place of the next lookup; all four are 0 where an opening is next, and where no lookup is to come. The
-// last is the number of low digits that the cycle skips. A record of zeros is that of a fresh array.
-enum {
-    JORIVELUNE_PHASE,
-    JORIVELUNE_CHECK,
-    JORIVELUNE_DIGIT,
-    JORIVELUNE_COLUMN,
-    JORIVELUNE_FACTOR,
-    JORIVELUNE_COUNT,
-    JORIVELUNE_SKIP,
-    JORIVELUNE_WORDS
+// Any numbers may be given: questions 1 to 5 say which are taken.
+struct jorivelune_shape {
+    size_t radix;  // rho
+    size_t digits; // b
+    size_t errors; // tau
+    size_t width;  // k
+    size_t rows;   // m
 };
+
+// What a record's phase is; any other number is read as idle.
+enum jorivelune_phase {
+    JORIVELUNE_IDLE = 0,    // no cycle: after a clear, a program or a commit
+    JORIVELUNE_OPEN = 1,    // a cycle was started, and steps are to come
+    JORIVELUNE_COMPLETE = 2 // the cycle's last step was made: the flags are those of a whole cycle
+};
+
+// The cycle record. All 0 is that of a fresh array. A caller keeps it and hands it to each call as the last one left
+// it; a step refuses one that no start and steps on this shape left.
+struct jorivelune_record {
+    size_t phase;  // enum jorivelune_phase
+    size_t check;  // the place of the next lookup: check row, digit, column and factor,
+    size_t digit;  // all four 0 where an opening is next, and where none is to come
+    size_t column;
+    size_t factor;
+    size_t count;  // the steps made since the start
+    size_t skip;   // the low digits that the cycle skips
+};
+
+static_assert(sizeof(struct jorivelune_record) == 7 * sizeof(size_t), "the library's record has seven words");
+static_assert(sizeof(struct jorivelune_shape) == 5 * sizeof(size_t), "the library's shape has five words");
+
+// ---- before any other call
+
+// What a caller has to know to lend the buffers: q, r, n, m x n, the blocks of 64 rows, and the steps of a cycle that
+// skips so many low digits, its opening among them. Questions 1 to 5, then 15.
+uint8_t jorivelune_sizes(struct jorivelune_shape shape, size_t skip,
+                         size_t *levels, size_t *checks, size_t *columns,
+                         size_t *cells, size_t *blocks, size_t *steps);
 
 // ---- calls that have the record
 
-// Lines are m bytes, one for each row's match line: 0 is sound, any other dead. A dead row matches nothing. Clear writes
-// 0, jorivelune_line sets a byte, and no other call changes them.
-
-// Totals are (m + 63) / 64 bytes: for each block of 64 rows, the last of which may be short, the number of its
-// flagged rows. Clear and start write 0, and each step that looks for rows to flag counts them anew.
-
-uint8_t jorivelune_clear(size_t record[JORIVELUNE_WORDS], struct jorivelune_shape shape,
+// The fresh array: cells, lines, counters, flags and totals all 0, the record idle.
+uint8_t jorivelune_clear(struct jorivelune_record *record, struct jorivelune_shape shape,
                          uint8_t *cells, size_t cells_length,
                          uint8_t *lines, size_t lines_length,
                          uint8_t *counters, size_t counters_length,
                          uint8_t *flags, size_t flags_length,
                          uint8_t *totals, size_t totals_length);
 
-uint8_t jorivelune_program(size_t record[JORIVELUNE_WORDS], struct jorivelune_shape shape,
+// Writes a row of k levels with its check cells; the record becomes idle.
+uint8_t jorivelune_program(struct jorivelune_record *record, struct jorivelune_shape shape,
                            uint8_t *cells, size_t cells_length,
                            size_t row, const uint8_t *levels, size_t levels_length);
 
-// Writes a finished row of n cells, as jorivelune_ask gives it. Any bytes may be given: question 8 refuses one of q or more,
-// and then question 17 a row that is not sound. It leaves what programming the first k of them leaves.
-uint8_t jorivelune_commit(size_t record[JORIVELUNE_WORDS], struct jorivelune_shape shape,
+// Writes a finished row of n cells, as jorivelune_ask gives it. Any bytes may be given: question 8 refuses one of q or
+// more, and then question 17 a row that is not sound. It leaves what programming the first k of them leaves.
+uint8_t jorivelune_commit(struct jorivelune_record *record, struct jorivelune_shape shape,
                           uint8_t *cells, size_t cells_length,
                           size_t row, const uint8_t *finished, size_t finished_length);
 
-// Skip is the number of low digits that the cycle skips: 0 for the whole cycle, below b for a coarse one, which sees
-// only what differs above them. Any number may be given: question 15 refuses b and more.
-uint8_t jorivelune_start(size_t record[JORIVELUNE_WORDS], struct jorivelune_shape shape, size_t skip,
+// Opens a cycle, also where one was open: counters, flags and totals 0. Skip is the number of low digits that the cycle
+// skips: 0 for the whole cycle, below b for a coarse one, which sees only what differs above them.
+uint8_t jorivelune_start(struct jorivelune_record *record, struct jorivelune_shape shape, size_t skip,
                          uint8_t *counters, size_t counters_length,
                          uint8_t *flags, size_t flags_length,
                          uint8_t *totals, size_t totals_length);
 
-// A cycle's first step is its opening: it feeds 0 to every column and flags the rows that do not match; it counts nothing.
-uint8_t jorivelune_step(size_t record[JORIVELUNE_WORDS], struct jorivelune_shape shape,
+// The next lookup of the cycle. A cycle's first step is its opening: it feeds 0 to every column and flags the rows that
+// do not match; it counts nothing.
+uint8_t jorivelune_step(struct jorivelune_record *record, struct jorivelune_shape shape,
                         const uint8_t *cells, size_t cells_length,
                         const uint8_t *lines, size_t lines_length,
                         uint8_t *counters, size_t counters_length,
@@ -84,10 +130,9 @@ uint8_t jorivelune_step(size_t record[JORIVELUNE_WORDS], struct jorivelune_shape
                         uint8_t *totals, size_t totals_length,
                         uint8_t *matches, size_t matches_length);
 
-// At most so many steps of the open cycle, one after the other, up to its end. Any number may be given. The questions are those of a
-// step (1 to 5, 6, 9), asked once, also where the number is 0; the match bytes are those of the last step that is made, and stay as they
-// were where none is.
-uint8_t jorivelune_steps(size_t record[JORIVELUNE_WORDS], struct jorivelune_shape shape, size_t most,
+// At most so many steps of the open cycle, one after the other, up to its end. The questions are those of a step, asked
+// once, also where the number is 0; the match bytes are those of the last step that is made, and stay where none is.
+uint8_t jorivelune_steps(struct jorivelune_record *record, struct jorivelune_shape shape, size_t most,
                          const uint8_t *cells, size_t cells_length,
                          const uint8_t *lines, size_t lines_length,
                          uint8_t *counters, size_t counters_length,
@@ -96,7 +141,7 @@ uint8_t jorivelune_steps(size_t record[JORIVELUNE_WORDS], struct jorivelune_shap
                          uint8_t *matches, size_t matches_length);
 
 // A start and all the steps of a cycle.
-uint8_t jorivelune_run(size_t record[JORIVELUNE_WORDS], struct jorivelune_shape shape, size_t skip,
+uint8_t jorivelune_run(struct jorivelune_record *record, struct jorivelune_shape shape, size_t skip,
                        const uint8_t *cells, size_t cells_length,
                        const uint8_t *lines, size_t lines_length,
                        uint8_t *counters, size_t counters_length,
@@ -106,9 +151,8 @@ uint8_t jorivelune_run(size_t record[JORIVELUNE_WORDS], struct jorivelune_shape 
 
 // ---- the panel
 
-// The sum of the totals goes to total; the first flagged row to first, m where there is none; and the number of flags
-// that were read for it to read. Only the first block whose total is not 0 is read. All three are 0 where the call is
-// refused.
+// The number of flagged rows, the sum of the totals, goes to total; the first flagged row to first, m where there is
+// none; and the number of flags that were read for it to read: those of one block at most.
 uint8_t jorivelune_panel(struct jorivelune_shape shape,
                          const uint8_t *flags, size_t flags_length,
                          const uint8_t *totals, size_t totals_length,
@@ -116,34 +160,37 @@ uint8_t jorivelune_panel(struct jorivelune_shape shape,
 
 // ---- calls without the record
 
-// One row's line byte becomes 0 or 1, and nothing else. Any byte may be given: question 16 refuses one above 1.
+// One row's line byte becomes 0, sound, or 1, dead, and nothing else changes. A dead row matches nothing.
 uint8_t jorivelune_line(struct jorivelune_shape shape, uint8_t *lines, size_t lines_length,
                         size_t row, uint8_t byte);
 
+// One cell changes to a level, and nothing else.
 uint8_t jorivelune_drift(struct jorivelune_shape shape, uint8_t *cells, size_t cells_length,
                          size_t row, size_t column, uint8_t level);
 
+// The k rule cells of a row go to out.
 uint8_t jorivelune_read(struct jorivelune_shape shape, const uint8_t *cells, size_t cells_length,
                         size_t row, uint8_t *out, size_t out_length);
 
-// The finished row of n cells that programming these levels would write goes to finished, and the number of its cells that
-// differ from the row as it stands to changed, 0 where the call is refused. Array and record stay, also where a cycle is open.
+// The finished row of n cells that programming these levels would write goes to finished, and the number of its cells
+// that differ from the row as it stands to changed. Array and record stay, also where a cycle is open.
 uint8_t jorivelune_ask(struct jorivelune_shape shape, const uint8_t *cells, size_t cells_length,
                        size_t row, const uint8_t *levels, size_t levels_length,
                        uint8_t *finished, size_t finished_length, size_t *changed);
 
-// The number of matches goes to count, 0 where the call is refused.
+// A task lookup: a row matches where every input is at most its cell, and its line is sound. The number of rows that
+// match goes to count.
 uint8_t jorivelune_lookup(struct jorivelune_shape shape, const uint8_t *cells, size_t cells_length,
                           const uint8_t *lines, size_t lines_length,
                           const uint8_t *inputs, size_t inputs_length,
                           uint8_t *matches, size_t matches_length, size_t *count);
 
-// The row goes to found: m where none matches, 0 where the call is refused.
+// The first row that matches goes to found, m where none does.
 uint8_t jorivelune_first_match(struct jorivelune_shape shape, const uint8_t *cells, size_t cells_length,
                                const uint8_t *lines, size_t lines_length,
                                const uint8_t *inputs, size_t inputs_length, size_t *found);
 
-// Whether the row is sound goes to holds, false where the call is refused.
+// Whether the row is sound, its check cells those of its rule cells, goes to holds.
 uint8_t jorivelune_sound(struct jorivelune_shape shape, const uint8_t *cells, size_t cells_length,
                          size_t row, bool *holds);
 
