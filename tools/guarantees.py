@@ -45,7 +45,7 @@ def edits(own):
         if files[crate]:
             lines += ["", f"### `{crate}`: {len(files[crate])}", ""]
         for path in files[crate]:
-            first = path.read_text(encoding="utf8").splitlines()[0]
+            first = path.read_text(encoding="utf8").split("\n")[0]
             if not first.startswith("# "):
                 sys.exit(f"{path}:1: the first line has to be `# what the wrong program does`")
             lines += wrap(f"- `{path.stem}`: {first[2:]}")
