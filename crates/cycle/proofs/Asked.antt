@@ -1,23 +1,16 @@
 -- On a shape taken and a memory whose buffers have their lengths the first no to a call is that to its own arguments. Assumes nothing.
 use mathlib.Core.Path.{_≡_}
 use mathlib.Core.List.{List, [], _∷_, _++_}
-use Prim.Native.Nat.{ℕ, _<_}
-use lib.Dec.{lit<}
+use Prim.Native.Nat.{ℕ}
 use lib.ListN.{length}
-use Rattle.parity.specs.Questions.{Question, firstNo, Taken, skipQuestion, lengthsQuestion}
+use Rattle.parity.specs.Questions.{Question, firstNo, Taken, lengthsQuestion}
 use Rattle.parity.specs.declared.Shape.{Shape}
-use Rattle.parity.proofs.Taken.{first-yes}
-use borrow.Author.Tests.{ltb-true}
 use Rattle.shape.proofs.Refusals.{call-rest}
 use Rattle.array_memory.specs.Lengths.{cellsWanted, linesWanted, rowsWanted, allWanted, Sized, rowsLengths, allLengths}
 use Rattle.array_memory.proofs.Asked.{cells-lent, lines-lent, rows-lent, all-lent}
 use Rattle.array_questions.specs.Questions.{cellsQuestions, linesQuestions, clearQuestions, startArguments, startQuestions, stepArguments, lentQuestions}
 use Rattle.cycle.specs.Record.{cycleQuestion}
 use Rattle.cycle.specs.Calls.{State, stepQuestions}
-
--- a number of digits to skip that is taken is below b
-pub skip-below : (s : Shape) (z : ℕ) → firstNo (startArguments s z) ≡ 0 → z < s .digits
-skip-below s z e = ltb-true z (s .digits) (first-yes (skipQuestion s z .holds) 0 15 (lit< tt) e .0)
 
 module _ (s : Shape) (t : Taken s) (st : State) (lent : Sized s (st .memory)) where
   pub clear-asked : firstNo (clearQuestions s (allLengths (st .memory))) ≡ 0

@@ -15,6 +15,7 @@ use Rattle.parity.specs.Matrix.{lookups, cycleSteps}
 use Rattle.parity.specs.Codeword.{Codeword, encode}
 use Rattle.parity.specs.Questions.{Question, Taken, firstNo, ifTaken}
 use Rattle.parity.specs.declared.Shape.{Shape}
+use Rattle.parity.proofs.Taken.{skip-below}
 use Rattle.parity.proofs.Encoding.{encodedClaim}
 use Rattle.shape.specs.Answers.{Result, accepted, refused, giving, calling}
 use Rattle.shape.proofs.Refusals.{call-rest}
@@ -31,7 +32,7 @@ use Rattle.cycle_lookup.specs.Lookup.{lookedUp}
 use Rattle.cycle.specs.Record.{idle, isNext}
 use Rattle.cycle.specs.Calls.{State, stateOf, zeroRows, cleared, fresh, clearCall, programCall, commitCall, started, startCall}
 use Rattle.cycle.specs.Calls.{steppedMemory, stepped}
-use Rattle.cycle.proofs.Asked.{skip-below, clear-asked, start-asked, cells-asked, lines-asked}
+use Rattle.cycle.proofs.Asked.{clear-asked, start-asked, cells-asked, lines-asked}
 use Rattle.cycle.proofs.CycleRecord.{stands-at, stands-next, next-idle, next-open, next-complete}
 use Rattle.cycle.proofs.Steps.{started-tallies, started-sized, stepped-tallies, stepped-cycle, stepped-sized, step-state}
 use Rattle.call_lists.specs.Run.{Call, clear, start, program, ask, commit, drift, line, lookup, step, after, runFrom}

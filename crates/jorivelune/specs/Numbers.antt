@@ -3,6 +3,7 @@ use mathlib.Core.Bool.{cond}
 use Prim.Native.Nat.{ℕ}
 use lib.Dec.{eqb}
 use Rattle.shape.specs.Answers.{Said, Found, row, none}
+use Rattle.cycle_sizes.specs.declared.CycleSizes.{CycleSizes}
 use Rattle.panel.specs.Panel.{Reading}
 
 -- what a number and a value say: the call is taken exactly where the number is 0
@@ -17,6 +18,13 @@ foundNumber m none = m
 -- what a first match among m rows says, as a number: 0 where it is refused
 abbrev pub foundSays : ℕ → Said Found → Said ℕ
 foundSays m said = record { taken = said .taken; number = said .number; value = cond (said .taken) (foundNumber m (said .value)) 0 }
+
+-- ---- the sizes
+
+-- six numbers, in the order in which they are told
+abbrev pub measured : ℕ → ℕ → ℕ → ℕ → ℕ → ℕ → CycleSizes
+measured levels checks columns cells blocks steps =
+    record { levels = levels; checks = checks; columns = columns; cells = cells; blocks = blocks; steps = steps }
 
 -- ---- the panel
 

@@ -2,4 +2,5 @@
 // the number of the first question that fails, 0 where it is taken.
 pub mod calls;
 pub mod cells;
+pub mod sizes;
 pub mod summary;

@@ -2,15 +2,13 @@
 // and q = 16, in radix 2 and with q for the radix, and the ones of the check matrix with more check columns (footnote 6).
 // What it prints is held to the paper's numbers in the file stdout.
 use acam::matrix::matrix_of;
-use acam::order::ones;
 use cycle::Cycle;
 use cycle_run::run_cycle;
+use cycle_sizes::count_ones;
 use libc::STDOUT_FILENO;
 use parity::Shape;
 use shape::sizes::Checked;
 use shape::sizes::check_shape;
-ghost use Prim.Native.Nat.{_*_, _≤_};
-ghost use lib.ListN.{length};
 
 fn example(radix: usize, digits: usize, errors: usize, width: usize, rows: usize) -> Shape {
     Shape {
@@ -60,20 +58,6 @@ fn put(word: &[u8], value: usize) {
 
 fn end_line() {
     io::write_all(STDOUT_FILENO, b"\n");
-}
-
-// The ones of a part of a check matrix, column after column.
-fn count_ones(matrix: &[u8]) -> usize
-    requires { ⌜ length (now matrix) ≤ 255 ⌝ }
-    ensures { λ r. ⌜ r ≤ 8 * 255 ⌝ }
-{
-    let mut sum: usize = 0;
-    let mut j: usize = 0;
-    while j < matrix.len() {
-        sum += ones(matrix[j]);
-        j += 1;
-    }
-    sum
 }
 
 // The naive way reads the thresholds of all m × k cells.

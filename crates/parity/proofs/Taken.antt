@@ -1,14 +1,15 @@
--- What it says that a shape is taken: the limits of the five questions, and that they suffice. Assumes nothing.
+-- What it says that a shape is taken: the limits of the five questions, and that they suffice; and what 15 says. Assumes nothing.
 use mathlib.Core.Path.{_≡_, refl, sym, ap, _∙_}
 use mathlib.Core.Logic.{_⊎_, inl, inr, ⊎-elim}
 use mathlib.Core.Bool.{Bool, true, false, cond, _&&_, and-eq-true-iff}
+use mathlib.Core.List.{[], _∷_}
 use Prim.Native.Nat.{ℕ, _≤_, _<_}
 use native.Mathlib.Nat.{eq-or-lt-of-le}
 use native.Mathlib.Omega.{arith}
-use lib.Dec.{leb}
-use borrow.Author.Tests.{leb-true, le-leb, lt-leb}
+use lib.Dec.{leb, lit<}
+use borrow.Author.Tests.{leb-true, ltb-true, le-leb, lt-leb}
 use Rattle.parity.specs.Shape.{levels, limit}
-use Rattle.parity.specs.Questions.{shapeRefusal, Taken}
+use Rattle.parity.specs.Questions.{firstNo, shapeRefusal, Taken, skipQuestion}
 use Rattle.parity.specs.declared.Shape.{Shape}
 
 pub record Limits (s : Shape) : Type 0 where
@@ -27,6 +28,10 @@ pub record Limits (s : Shape) : Type 0 where
 pub first-yes : (holds : Bool) (rest number : ℕ) → 0 < number → cond holds rest number ≡ 0 → (holds ≡ true) × (rest ≡ 0)
 first-yes true rest number h e = (refl, e)
 first-yes false rest number h e = absurd (omega arith)
+
+-- a number of digits to skip that is taken is below b
+pub skip-below : (s : Shape) (z : ℕ) → firstNo (skipQuestion s z ∷ []) ≡ 0 → z < s .digits
+skip-below s z e = ltb-true z (s .digits) (first-yes (skipQuestion s z .holds) 0 15 (lit< tt) e .0)
 
 -- a test of a range passes exactly where the range holds
 pub range-true : (a b c d : ℕ) → leb a b && leb c d ≡ true → (a ≤ b) × (c ≤ d)

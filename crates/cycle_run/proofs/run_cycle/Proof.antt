@@ -13,7 +13,7 @@ use Rattle.parity.specs.Questions.{Question, firstNo, shapeQuestions, skipQuest
 use Rattle.parity.specs.Claims.{mostSteps}
 use Rattle.parity.proofs.Alongside.{equal-alongside}
 use Rattle.parity.proofs.Longest.{lookups-high}
-use Rattle.parity.proofs.Taken.{first-yes}
+use Rattle.parity.proofs.Taken.{first-yes, skip-below}
 use Rattle.shape.specs.Answers.{accepted, giving}
 use Rattle.shape.specs.Shapes.{checkedSays, sizesIf, sizesIn, Passed}
 use Rattle.shape.proofs.Refusals.{answer-taken, answer-refused, shape-asked, sizes-told, ask, length-lent, CallPassed, call-passed}
@@ -27,7 +27,7 @@ use Rattle.array_questions.specs.Questions.{startArguments, stepArguments}
 use Rattle.cycle_lookup.specs.Lookup.{entryMatches}
 use Rattle.cycle.specs.Record.{cycleAt, isNext}
 use Rattle.cycle.specs.Calls.{State, stateOf, started, startCall, stepQuestions}
-use Rattle.cycle.proofs.Asked.{skip-below, start-asked, lent-asked, step-asked}
+use Rattle.cycle.proofs.Asked.{start-asked, lent-asked, step-asked}
 use Rattle.cycle.proofs.CycleRecord.{next-open}
 use Rattle.cycle.proofs.Steps.{started-sized, start-done}
 use Rattle.cycle.proofs.Given.{gives-refusal}
