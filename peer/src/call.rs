@@ -10,6 +10,7 @@ use crate::array;
 use crate::cycle::{self, Cycle};
 use crate::panel::{panel, Panel};
 use crate::shape::{Refusal, Shape};
+use crate::sizes::{sizes, Sizes};
 use crate::state::{Bytes, State};
 
 /// Makes two enums of one listing: the calls with their arguments, and the
@@ -49,6 +50,11 @@ macro_rules! calls {
 }
 
 calls! {
+    /// Tell the sizes of the shape.
+    Sizes {
+        /// The number of low digits that a cycle skips.
+        skip: usize,
+    },
     /// Clear the array.
     Clear,
     /// Program a row.
@@ -153,7 +159,8 @@ impl Name {
             | Name::Step
             | Name::Steps
             | Name::Run => true,
-            Name::Ask
+            Name::Sizes
+            | Name::Ask
             | Name::Drift
             | Name::Line
             | Name::Lookup
@@ -169,6 +176,7 @@ impl<B> Call<B> {
     /// The same call with something else for the buffer of its own.
     pub fn map<C>(self, change: impl FnOnce(B) -> C) -> Call<C> {
         match self {
+            Call::Sizes { skip } => Call::Sizes { skip },
             Call::Clear => Call::Clear,
             Call::Program { row, levels } => Call::Program { row, levels },
             Call::Ask {
@@ -210,13 +218,15 @@ impl<B> Call<B> {
     }
 }
 
-/// What a call gave: nothing, a count of matches or of changes, what the panel is
-/// told, a row or none, yes or no; or the number of the first question that
-/// failed.
+/// What a call gave: nothing, sizes, a count of matches or of changes, what the
+/// panel is told, a row or none, yes or no; or the number of the first question
+/// that failed.
 #[derive(Clone, Copy, Debug, PartialEq, Eq)]
 pub enum Answer {
     /// The call was taken and gives nothing.
     Done,
+    /// The sizes of the shape.
+    Sizes(Sizes),
     /// The number of matches.
     Count(usize),
     /// The number of cells that programming would change.
@@ -265,6 +275,7 @@ pub fn make<S: Bytes, B: Bytes>(
     };
     let (cells, lines) = (&mut state.cells, &mut state.lines);
     match call {
+        Call::Sizes { skip } => Answer::of(sizes(shape, *skip), Answer::Sizes),
         Call::Clear => keep(array::clear(shape, state.lend(), now)),
         Call::Program { row, levels } => keep(array::program(shape, cells, *row, levels, now)),
         Call::Commit { row, finished } => keep(array::commit(shape, cells, *row, finished, now)),

@@ -11,6 +11,7 @@
 //! - [`matrix`]: the parity-check matrix;
 //! - [`code`]: the encoder of the check cells and the codeword test;
 //! - [`comparator`]: the rule of a match line;
+//! - [`mod@sizes`]: the sizes of a shape's buffers, and the steps of its cycles;
 //! - [`state`]: the lent state;
 //! - [`mod@panel`]: the totals of flagged rows, and the panel call;
 //! - [`cycle`]: the cycle record, start, step, several steps, and one whole cycle;
@@ -33,6 +34,7 @@ pub mod list;
 pub mod matrix;
 pub mod panel;
 pub mod shape;
+pub mod sizes;
 pub mod state;
 pub mod testing;
 
@@ -45,4 +47,5 @@ pub use job::job;
 pub use list::Array;
 pub use panel::{panel, Panel};
 pub use shape::{Layout, Refusal, Shape};
+pub use sizes::{sizes, Sizes};
 pub use state::State;

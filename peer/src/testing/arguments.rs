@@ -44,7 +44,7 @@ impl<B> Call<B> {
     /// The number of low digits that a cycle skips.
     pub fn skip_mut(&mut self) -> Option<&mut usize> {
         match self {
-            Call::Start { skip } | Call::Run { skip, .. } => Some(skip),
+            Call::Sizes { skip } | Call::Start { skip } | Call::Run { skip, .. } => Some(skip),
             _ => None,
         }
     }

@@ -38,6 +38,7 @@ pub trait Draw {
 /// A call of the name.
 pub fn call<D: Draw>(name: Name, draw: &mut D) -> Call<D::Buffer> {
     match name {
+        Name::Sizes => Call::Sizes { skip: draw.skip() },
         Name::Clear => Call::Clear,
         Name::Program => {
             let (row, levels) = draw.rule();

@@ -79,7 +79,8 @@ impl Log {
             Call::Start { skip } => self.start(*skip),
             Call::Step { matches } => self.step(matches.len()),
             Call::Steps { most, matches } => self.steps(*most, matches.len()),
-            Call::Run { .. }
+            Call::Sizes { .. }
+            | Call::Run { .. }
             | Call::Panel
             | Call::FirstMatch { .. }
             | Call::Sound { .. }

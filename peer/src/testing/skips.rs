@@ -57,7 +57,7 @@ enum Case {
     EndedFine(Name),
     /// It ended a coarse cycle.
     EndedCoarse(Name),
-    /// It was refused with 15, and a cycle was open.
+    /// It was given the record of an open cycle, and refused with 15.
     RefusedOpen(Name),
     /// It was one step or several that took a record with another z than that of
     /// its cycle.
@@ -82,7 +82,7 @@ impl Skips {
         match answer {
             Answer::Done if ends && after.skip == 0 => self.0.add(Case::EndedFine(name)),
             Answer::Done if ends => self.0.add(Case::EndedCoarse(name)),
-            Answer::Refused(15) if before.phase == Phase::Open => {
+            Answer::Refused(15) if name.has_record() && before.phase == Phase::Open => {
                 self.0.add(Case::RefusedOpen(name));
             }
             _ => {}

@@ -5,7 +5,10 @@ use std::fmt::{self, Debug};
 
 use crate::call::{Answer, Name};
 
-/// The last question that every call asks: the lengths of its buffers.
+/// The last question that every call asks: the rows of the shape.
+const ROWS: u8 = 5;
+
+/// The question that every call asks to which a buffer is lent.
 const LENGTH: u8 = 6;
 
 /// How often each call was answered with each number, 0 where it was taken.
@@ -20,10 +23,16 @@ fn own_questions(name: Name) -> &'static [u8] {
         Name::Commit => &[7, 8, 17],
         Name::Line => &[7, 16],
         Name::Lookup | Name::FirstMatch => &[8],
-        Name::Start | Name::Run => &[15],
+        Name::Sizes | Name::Start | Name::Run => &[15],
         Name::Step | Name::Steps => &[9],
         Name::Sound | Name::Read => &[7],
     }
+}
+
+/// Whether a call may be answered with a number.
+fn is_possible(name: Name, number: u8) -> bool {
+    let lengths = number == LENGTH && name != Name::Sizes;
+    number <= ROWS || lengths || own_questions(name).contains(&number)
 }
 
 impl Tally {
@@ -47,7 +56,7 @@ impl Tally {
         for &name in Name::ALL {
             for number in 0..=u8::MAX {
                 let seen = self.0.contains_key(&(name, number));
-                let possible = number <= LENGTH || own_questions(name).contains(&number);
+                let possible = is_possible(name, number);
                 assert_eq!(seen, possible, "{name:?} {number}: {self:?}");
             }
         }

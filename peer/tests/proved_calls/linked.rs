@@ -48,8 +48,18 @@ macro_rules! linked {
 }
 
 linked! {
+    fn jorivelune_sizes(
+        shape: Numbers,
+        skip: usize,
+        levels: *mut usize,
+        checks: *mut usize,
+        columns: *mut usize,
+        cells: *mut usize,
+        blocks: *mut usize,
+        steps: *mut usize,
+    ) -> u8;
     fn jorivelune_clear(
-        words: *mut Words,
+        record: *mut Words,
         shape: Numbers,
         cells: *mut u8,
         cells_length: usize,
@@ -63,7 +73,7 @@ linked! {
         totals_length: usize,
     ) -> u8;
     fn jorivelune_program(
-        words: *mut Words,
+        record: *mut Words,
         shape: Numbers,
         cells: *mut u8,
         cells_length: usize,
@@ -72,7 +82,7 @@ linked! {
         levels_length: usize,
     ) -> u8;
     fn jorivelune_commit(
-        words: *mut Words,
+        record: *mut Words,
         shape: Numbers,
         cells: *mut u8,
         cells_length: usize,
@@ -81,7 +91,7 @@ linked! {
         finished_length: usize,
     ) -> u8;
     fn jorivelune_start(
-        words: *mut Words,
+        record: *mut Words,
         shape: Numbers,
         skip: usize,
         counters: *mut u8,
@@ -92,7 +102,7 @@ linked! {
         totals_length: usize,
     ) -> u8;
     fn jorivelune_step(
-        words: *mut Words,
+        record: *mut Words,
         shape: Numbers,
         cells: *const u8,
         cells_length: usize,
@@ -108,7 +118,7 @@ linked! {
         matches_length: usize,
     ) -> u8;
     fn jorivelune_steps(
-        words: *mut Words,
+        record: *mut Words,
         shape: Numbers,
         most: usize,
         cells: *const u8,
@@ -125,7 +135,7 @@ linked! {
         matches_length: usize,
     ) -> u8;
     fn jorivelune_run(
-        words: *mut Words,
+        record: *mut Words,
         shape: Numbers,
         skip: usize,
         cells: *const u8,

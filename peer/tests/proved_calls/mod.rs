@@ -11,7 +11,7 @@ use std::cmp::Ordering;
 use linked::*;
 use peer::state::Bytes;
 use peer::testing::records::Words;
-use peer::{Answer, Call, Panel, Shape, State};
+use peer::{Answer, Call, Panel, Shape, Sizes, State};
 
 /// Makes a call of the proved library. No answer comes where a value is none
 /// that the call may give.
@@ -33,6 +33,10 @@ pub fn make<S: Bytes, B: Bytes>(
         Call::Drift { row, column, level } => drift(shape, cells, *row, *column, *level),
         Call::Line { row, byte } => line(shape, lines, *row, *byte),
         Call::Read { row, out } => read(shape, cells, *row, out),
+        Call::Sizes { skip } => {
+            let (number, told) = sizes(shape, *skip);
+            return with_value(number, told, |told| Some(sizes_told(told)));
+        }
         Call::Ask {
             row,
             levels,
@@ -84,6 +88,18 @@ fn row_or_none(shape: Shape, found: usize) -> Option<Option<usize>> {
         Ordering::Equal => Some(None),
         Ordering::Greater => None,
     }
+}
+
+/// The sizes, from q, r, n, cells, blocks and steps.
+fn sizes_told([levels, checks, columns, cells, blocks, steps]: [usize; 6]) -> Answer {
+    Answer::Sizes(Sizes {
+        levels,
+        checks,
+        columns,
+        cells,
+        blocks,
+        steps,
+    })
 }
 
 /// What the panel is told, from total, first row and flags read.
@@ -229,6 +245,25 @@ pub fn read(shape: Shape, cells: &[u8], row: usize, out: &mut [u8]) -> u8 {
 
 // A result that goes out beside the number starts with a value that no call
 // gives, so that one which is not written is seen.
+
+/// The number, and q, r, n, the cells, the blocks and the steps of a cycle.
+pub fn sizes(shape: Shape, skip: usize) -> (u8, [usize; 6]) {
+    let [mut levels, mut checks, mut columns] = [usize::MAX; 3];
+    let [mut cells, mut blocks, mut steps] = [usize::MAX; 3];
+    let number = unsafe {
+        jorivelune_sizes(
+            shape.into(),
+            skip,
+            &mut levels,
+            &mut checks,
+            &mut columns,
+            &mut cells,
+            &mut blocks,
+            &mut steps,
+        )
+    };
+    (number, [levels, checks, columns, cells, blocks, steps])
+}
 
 /// The number, and the count of cells that would change.
 pub fn ask(

@@ -2,6 +2,7 @@
 
 use super::panel::{blocks, counts, panel};
 use super::schedule::{Lookup, Schedule};
+use super::sizes::sizes;
 use super::spec::{questions, Spec};
 use super::{all_below, ask};
 use crate::call::{Answer, Call};
@@ -23,6 +24,7 @@ pub const IDLE: Cycle = Cycle {
 /// Makes a call by the definitions.
 pub fn make(array: &mut Array, call: &mut Call<Vec<u8>>) -> Answer {
     match call {
+        Call::Sizes { skip } => Answer::of(sizes(array.shape, *skip), Answer::Sizes),
         Call::Clear => Answer::done(clear(array)),
         Call::Program { row, levels } => Answer::done(program(array, *row, levels)),
         Call::Ask {

@@ -6,6 +6,7 @@ pub mod calls;
 pub mod job;
 pub mod panel;
 pub mod schedule;
+pub mod sizes;
 pub mod spec;
 
 /// Yes goes on, no gives the number.
