@@ -1,7 +1,9 @@
 // The calls by their header: document 01's rows M1, M2 and M5, a drift, the cycle that finds it,
 // several steps by one call, what the panel is told, coarse cycles, a dead match line, a row that
-// is asked for and committed, and refusals. The exit status is the number of the first line of this file that is not as it
-// should be, modulo 255 and never 0, or 0.
+// is asked for and committed, and refusals; and an array on which every answer is another number,
+// so that two that are swapped are seen. Each variable for an answer starts with a value that the
+// call does not give. The exit status is the number of the first line of this file that is not as
+// it should be, modulo 255 and never 0, or 0.
 #include "jorivelune.h"
 
 #include <string.h>
@@ -12,79 +14,88 @@
             return __LINE__ % 255 + 1; \
     } while (0)
 
+#define TAKEN(call) EXPECT((call) == JORIVELUNE_TAKEN)
+#define REFUSED(call, question) EXPECT((call) == JORIVELUNE_BAD_##question)
+
 static int whole_cycle(void)
 {
     struct jorivelune_shape shape = {2, 3, 1, 3, 2};
-    size_t record[JORIVELUNE_WORDS] = {0};
+    struct jorivelune_record record = {0};
     uint8_t cells[8], lines[2] = {7, 7}, counters[2], flags[2], totals[1] = {7}, matches[2], out[3];
     const uint8_t m1[4] = {5, 2, 1, 6}, m2[4] = {4, 3, 1, 6};
     size_t count = 9, found = 9, steps = 0, total = 9, first = 9, read = 9;
     bool holds = false;
 
-    EXPECT(jorivelune_clear(record, shape, cells, 8, lines, 2, counters, 2, flags, 2,
-                            totals, 1) == 0);
+    TAKEN(jorivelune_clear(&record, shape, cells, 8, lines, 2, counters, 2, flags, 2,
+                           totals, 1));
     EXPECT(totals[0] == 0 && lines[0] == 0 && lines[1] == 0);
-    EXPECT(jorivelune_program(record, shape, cells, 8, 0, m1, 3) == 0);
-    EXPECT(jorivelune_program(record, shape, cells, 8, 1, m2, 3) == 0);
+    TAKEN(jorivelune_program(&record, shape, cells, 8, 0, m1, 3));
+    TAKEN(jorivelune_program(&record, shape, cells, 8, 1, m2, 3));
     EXPECT(memcmp(cells, m1, 4) == 0 && memcmp(cells + 4, m2, 4) == 0);
-    EXPECT(jorivelune_read(shape, cells, 8, 1, out, 3) == 0 && memcmp(out, m2, 3) == 0);
-    EXPECT(jorivelune_sound(shape, cells, 8, 1, &holds) == 0 && holds);
+    TAKEN(jorivelune_read(shape, cells, 8, 1, out, 3));
+    EXPECT(memcmp(out, m2, 3) == 0);
+    TAKEN(jorivelune_sound(shape, cells, 8, 1, &holds));
+    EXPECT(holds);
 
     // 4 3 1 matches the second row alone, 5 3 2 no row
-    EXPECT(jorivelune_lookup(shape, cells, 8, lines, 2, m2, 3, matches, 2, &count) == 0);
+    TAKEN(jorivelune_lookup(shape, cells, 8, lines, 2, m2, 3, matches, 2, &count));
     EXPECT(count == 1 && matches[0] == 0 && matches[1] == 1);
-    EXPECT(jorivelune_first_match(shape, cells, 8, lines, 2, m2, 3, &found) == 0 && found == 1);
+    TAKEN(jorivelune_first_match(shape, cells, 8, lines, 2, m2, 3, &found));
+    EXPECT(found == 1);
     const uint8_t none[3] = {5, 3, 2};
-    EXPECT(jorivelune_first_match(shape, cells, 8, lines, 2, none, 3, &found) == 0);
+    TAKEN(jorivelune_first_match(shape, cells, 8, lines, 2, none, 3, &found));
     EXPECT(found == shape.rows);
 
     // one cell of the second row drifts; an opening and (q - 1) x W = 7 x 4 steps find it
-    EXPECT(jorivelune_drift(shape, cells, 8, 1, 2, 7) == 0);
+    TAKEN(jorivelune_drift(shape, cells, 8, 1, 2, 7));
     totals[0] = 7;
-    EXPECT(jorivelune_start(record, shape, 0, counters, 2, flags, 2, totals, 1) == 0);
+    TAKEN(jorivelune_start(&record, shape, 0, counters, 2, flags, 2, totals, 1));
     EXPECT(totals[0] == 0);
-    while (record[JORIVELUNE_PHASE] == 1) {
-        EXPECT(jorivelune_step(record, shape, cells, 8, lines, 2, counters, 2, flags, 2, totals, 1,
-                               matches, 2) == 0);
+    while (record.phase == JORIVELUNE_OPEN) {
+        TAKEN(jorivelune_step(&record, shape, cells, 8, lines, 2, counters, 2, flags, 2, totals, 1,
+                              matches, 2));
         steps++;
     }
-    EXPECT(record[JORIVELUNE_PHASE] == 2 && record[JORIVELUNE_COUNT] == 29 && steps == 29);
+    EXPECT(record.phase == JORIVELUNE_COMPLETE && record.count == 29 && steps == 29);
     EXPECT(flags[0] == 0 && flags[1] == 1 && totals[0] == 1);
     totals[0] = 7;
-    EXPECT(jorivelune_run(record, shape, 0, cells, 8, lines, 2, counters, 2, flags, 2, totals, 1,
-                          matches, 2) == 0);
-    EXPECT(record[JORIVELUNE_COUNT] == 29 && flags[0] == 0 && flags[1] == 1 && totals[0] == 1);
-    EXPECT(record[JORIVELUNE_SKIP] == 0);
+    TAKEN(jorivelune_run(&record, shape, 0, cells, 8, lines, 2, counters, 2, flags, 2, totals, 1,
+                         matches, 2));
+    EXPECT(record.count == 29 && flags[0] == 0 && flags[1] == 1 && totals[0] == 1);
+    EXPECT(record.skip == 0);
 
     // the panel: one flagged row, found by reading both flags; none where the total is 0
-    EXPECT(jorivelune_panel(shape, flags, 2, totals, 1, &total, &first, &read) == 0);
+    TAKEN(jorivelune_panel(shape, flags, 2, totals, 1, &total, &first, &read));
     EXPECT(total == 1 && first == 1 && read == 2);
     const uint8_t none_flagged[1] = {0};
-    EXPECT(jorivelune_panel(shape, flags, 2, none_flagged, 1, &total, &first, &read) == 0);
+    TAKEN(jorivelune_panel(shape, flags, 2, none_flagged, 1, &total, &first, &read));
     EXPECT(total == 0 && first == shape.rows && read == 0);
 
     // refusals: no lookup to come, wrong lengths, no such row, a level too high, a shape with b = 0
-    size_t before[JORIVELUNE_WORDS];
-    memcpy(before, record, sizeof record);
-    EXPECT(jorivelune_step(record, shape, cells, 8, lines, 2, counters, 2, flags, 2, totals, 1,
-                           matches, 2) == 9);
-    EXPECT(jorivelune_start(record, shape, 0, counters, 1, flags, 2, totals, 1) == 6);
-    EXPECT(jorivelune_clear(record, shape, cells, 8, lines, 2, counters, 2, flags, 2,
-                            totals, 0) == 6);
-    EXPECT(jorivelune_start(record, shape, 0, counters, 2, flags, 2, totals, 0) == 6);
-    EXPECT(jorivelune_step(record, shape, cells, 8, lines, 2, counters, 2, flags, 2, totals, 0,
-                           matches, 2) == 6);
-    EXPECT(jorivelune_run(record, shape, 0, cells, 8, lines, 2, counters, 2, flags, 2, totals, 0,
-                          matches, 2) == 6);
-    EXPECT(memcmp(before, record, sizeof record) == 0);
+    struct jorivelune_record before = record;
+    REFUSED(jorivelune_step(&record, shape, cells, 8, lines, 2, counters, 2, flags, 2, totals, 1,
+                            matches, 2), RECORD);
+    REFUSED(jorivelune_start(&record, shape, 0, counters, 1, flags, 2, totals, 1), LENGTH);
+    REFUSED(jorivelune_clear(&record, shape, cells, 8, lines, 2, counters, 2, flags, 2,
+                             totals, 0), LENGTH);
+    REFUSED(jorivelune_start(&record, shape, 0, counters, 2, flags, 2, totals, 0), LENGTH);
+    REFUSED(jorivelune_step(&record, shape, cells, 8, lines, 2, counters, 2, flags, 2, totals, 0,
+                            matches, 2), LENGTH);
+    REFUSED(jorivelune_run(&record, shape, 0, cells, 8, lines, 2, counters, 2, flags, 2, totals, 0,
+                           matches, 2), LENGTH);
+    EXPECT(memcmp(&before, &record, sizeof record) == 0);
     EXPECT(memcmp(cells, m1, 4) == 0 && flags[0] == 0 && flags[1] == 1 && totals[0] == 1);
     total = first = read = 9;
-    EXPECT(jorivelune_panel(shape, flags, 2, totals, 0, &total, &first, &read) == 6);
+    REFUSED(jorivelune_panel(shape, flags, 2, totals, 0, &total, &first, &read), LENGTH);
     EXPECT(total == 0 && first == 0 && read == 0);
-    EXPECT(jorivelune_sound(shape, cells, 8, 2, &holds) == 7 && !holds);
-    EXPECT(jorivelune_drift(shape, cells, 8, 0, 0, 8) == 8 && cells[0] == 5);
+    REFUSED(jorivelune_sound(shape, cells, 8, 2, &holds), PLACE);
+    EXPECT(!holds);
+    REFUSED(jorivelune_drift(shape, cells, 8, 0, 0, 8), LEVEL);
+    EXPECT(cells[0] == 5);
     shape.digits = 0;
-    EXPECT(jorivelune_sound(shape, cells, 8, 0, &holds) == 2);
+    holds = true;
+    REFUSED(jorivelune_sound(shape, cells, 8, 0, &holds), DIGITS);
+    EXPECT(!holds);
     return 0;
 }
 
@@ -94,8 +105,8 @@ struct lent {
 };
 
 // At most so many steps with these numbers of cells and match bytes.
-static uint8_t steps_of(size_t record[JORIVELUNE_WORDS], struct jorivelune_shape shape, size_t most,
-                        struct lent *lent, size_t cells, size_t matches)
+static uint8_t steps_of(struct jorivelune_record *record, struct jorivelune_shape shape,
+                        size_t most, struct lent *lent, size_t cells, size_t matches)
 {
     return jorivelune_steps(record, shape, most, lent->cells, cells, lent->lines, 2,
                             lent->counters, 2, lent->flags, 2, lent->totals, 1,
@@ -103,18 +114,18 @@ static uint8_t steps_of(size_t record[JORIVELUNE_WORDS], struct jorivelune_shape
 }
 
 // The first row holds 5 2 1 6, the second has drifted to 0 0 4 0, and a cycle is at its opening.
-static int begin_cycle(size_t record[JORIVELUNE_WORDS], struct jorivelune_shape shape,
+static int begin_cycle(struct jorivelune_record *record, struct jorivelune_shape shape,
                        struct lent *lent)
 {
     const uint8_t m1[3] = {5, 2, 1};
 
     memset(lent, 7, sizeof *lent);
-    EXPECT(jorivelune_clear(record, shape, lent->cells, 8, lent->lines, 2, lent->counters, 2,
-                            lent->flags, 2, lent->totals, 1) == 0);
-    EXPECT(jorivelune_program(record, shape, lent->cells, 8, 0, m1, 3) == 0);
-    EXPECT(jorivelune_drift(shape, lent->cells, 8, 1, 2, 4) == 0);
-    EXPECT(jorivelune_start(record, shape, 0, lent->counters, 2, lent->flags, 2,
-                            lent->totals, 1) == 0);
+    TAKEN(jorivelune_clear(record, shape, lent->cells, 8, lent->lines, 2, lent->counters, 2,
+                           lent->flags, 2, lent->totals, 1));
+    TAKEN(jorivelune_program(record, shape, lent->cells, 8, 0, m1, 3));
+    TAKEN(jorivelune_drift(shape, lent->cells, 8, 1, 2, 4));
+    TAKEN(jorivelune_start(record, shape, 0, lent->counters, 2, lent->flags, 2,
+                           lent->totals, 1));
     return 0;
 }
 
@@ -123,35 +134,38 @@ static int begin_cycle(size_t record[JORIVELUNE_WORDS], struct jorivelune_shape 
 static int several_steps(void)
 {
     const struct jorivelune_shape shape = {2, 3, 1, 3, 2};
-    size_t record[JORIVELUNE_WORDS] = {0};
+    struct jorivelune_record record = {0};
     struct lent lent, before;
 
-    EXPECT(begin_cycle(record, shape, &lent) == 0);
+    EXPECT(begin_cycle(&record, shape, &lent) == 0);
     before = lent;
-    EXPECT(steps_of(record, shape, 0, &lent, 8, 2) == 0 && record[JORIVELUNE_COUNT] == 0);
+    TAKEN(steps_of(&record, shape, 0, &lent, 8, 2));
+    EXPECT(record.count == 0);
     EXPECT(memcmp(&before, &lent, sizeof lent) == 0 && lent.matches[0] == 7);
 
     // the opening and three lookups: the match bytes are those of the third column
-    EXPECT(steps_of(record, shape, 4, &lent, 8, 2) == 0 && record[JORIVELUNE_COUNT] == 4);
-    EXPECT(record[JORIVELUNE_DIGIT] == 2 && record[JORIVELUNE_COLUMN] == 3);
+    TAKEN(steps_of(&record, shape, 4, &lent, 8, 2));
+    EXPECT(record.count == 4);
+    EXPECT(record.digit == 2 && record.column == 3);
     EXPECT(lent.matches[0] == 0 && lent.matches[1] == 1 && lent.totals[0] == 0);
     EXPECT(lent.counters[0] == 1 && lent.counters[1] == 1 && lent.flags[1] == 0);
 
     // a single step between ends the digit and flags the second row
-    EXPECT(jorivelune_step(record, shape, lent.cells, 8, lent.lines, 2, lent.counters, 2,
-                           lent.flags, 2, lent.totals, 1, lent.matches, 2) == 0);
-    EXPECT(record[JORIVELUNE_COUNT] == 5 && lent.counters[0] == 0 && lent.counters[1] == 1);
+    TAKEN(jorivelune_step(&record, shape, lent.cells, 8, lent.lines, 2, lent.counters, 2,
+                          lent.flags, 2, lent.totals, 1, lent.matches, 2));
+    EXPECT(record.count == 5 && lent.counters[0] == 0 && lent.counters[1] == 1);
     EXPECT(lent.flags[0] == 0 && lent.flags[1] == 1 && lent.totals[0] == 1);
 
     // a byte of the radix or more in a counter counts by its remainder
     lent.counters[0] = 254;
     lent.counters[1] = 255;
-    EXPECT(steps_of(record, shape, 22, &lent, 8, 2) == 0 && record[JORIVELUNE_COUNT] == 27);
+    TAKEN(steps_of(&record, shape, 22, &lent, 8, 2));
+    EXPECT(record.count == 27);
     EXPECT(lent.matches[0] == 1 && lent.counters[0] == 1 && lent.counters[1] == 0);
 
     // more than are left end the cycle
-    EXPECT(steps_of(record, shape, SIZE_MAX, &lent, 8, 2) == 0);
-    EXPECT(record[JORIVELUNE_PHASE] == 2 && record[JORIVELUNE_COUNT] == 29);
+    TAKEN(steps_of(&record, shape, SIZE_MAX, &lent, 8, 2));
+    EXPECT(record.phase == JORIVELUNE_COMPLETE && record.count == 29);
     EXPECT(lent.matches[0] == 0 && lent.matches[1] == 0 && lent.counters[0] == 0);
     EXPECT(lent.flags[0] == 0 && lent.flags[1] == 1 && lent.totals[0] == 1);
     return 0;
@@ -163,25 +177,25 @@ static int refused_steps(void)
 {
     const struct jorivelune_shape shape = {2, 3, 1, 3, 2}, tall = {2, 3, 1, 3, 4097};
     const size_t numbers[4] = {0, 1, 30, SIZE_MAX};
-    size_t record[JORIVELUNE_WORDS] = {0}, open[JORIVELUNE_WORDS];
+    struct jorivelune_record record = {0}, open;
     struct lent lent, before;
 
-    EXPECT(begin_cycle(record, shape, &lent) == 0);
-    memcpy(open, record, sizeof record);
+    EXPECT(begin_cycle(&record, shape, &lent) == 0);
+    open = record;
     before = lent;
     for (int i = 0; i < 4; i++) {
-        memcpy(record, open, sizeof record);
-        EXPECT(steps_of(record, shape, numbers[i], &lent, 7, 2) == 6);
-        EXPECT(steps_of(record, shape, numbers[i], &lent, 8, 1) == 6);
-        EXPECT(steps_of(record, tall, numbers[i], &lent, 7, 1) == 5);
-        EXPECT(memcmp(open, record, sizeof record) == 0);
-        record[JORIVELUNE_COUNT] = 1;
-        EXPECT(steps_of(record, shape, numbers[i], &lent, 8, 2) == 9);
-        EXPECT(record[JORIVELUNE_COUNT] == 1 && memcmp(&before, &lent, sizeof lent) == 0);
-        record[JORIVELUNE_PHASE] = 2;
-        record[JORIVELUNE_COUNT] = 29;
-        EXPECT(steps_of(record, shape, numbers[i], &lent, 8, 2) == 9);
-        EXPECT(record[JORIVELUNE_COUNT] == 29 && memcmp(&before, &lent, sizeof lent) == 0);
+        record = open;
+        REFUSED(steps_of(&record, shape, numbers[i], &lent, 7, 2), LENGTH);
+        REFUSED(steps_of(&record, shape, numbers[i], &lent, 8, 1), LENGTH);
+        REFUSED(steps_of(&record, tall, numbers[i], &lent, 7, 1), ROWS);
+        EXPECT(memcmp(&open, &record, sizeof record) == 0);
+        record.count = 1;
+        REFUSED(steps_of(&record, shape, numbers[i], &lent, 8, 2), RECORD);
+        EXPECT(record.count == 1 && memcmp(&before, &lent, sizeof lent) == 0);
+        record.phase = JORIVELUNE_COMPLETE;
+        record.count = 29;
+        REFUSED(steps_of(&record, shape, numbers[i], &lent, 8, 2), RECORD);
+        EXPECT(record.count == 29 && memcmp(&before, &lent, sizeof lent) == 0);
     }
     return 0;
 }
@@ -193,61 +207,62 @@ static int coarse_cycles(void)
 {
     const struct jorivelune_shape shape = {2, 3, 1, 3, 2};
     const uint8_t m1[3] = {5, 2, 1}, flagged[3][2] = {{1, 1}, {0, 1}, {0, 1}};
-    const size_t steps[3] = {29, 13, 5}, idle[JORIVELUNE_WORDS] = {0};
-    size_t record[JORIVELUNE_WORDS] = {0}, before[JORIVELUNE_WORDS];
+    const size_t steps[3] = {29, 13, 5};
+    const struct jorivelune_record idle = {0};
+    struct jorivelune_record record = {0}, before;
     uint8_t cells[8], lines[2], counters[2], flags[2], totals[1], matches[2];
 
-    EXPECT(jorivelune_clear(record, shape, cells, 8, lines, 2, counters, 2, flags, 2,
-                            totals, 1) == 0);
-    EXPECT(jorivelune_program(record, shape, cells, 8, 0, m1, 3) == 0);
-    EXPECT(jorivelune_drift(shape, cells, 8, 0, 2, 0) == 0);
-    EXPECT(jorivelune_drift(shape, cells, 8, 1, 2, 4) == 0);
+    TAKEN(jorivelune_clear(&record, shape, cells, 8, lines, 2, counters, 2, flags, 2,
+                           totals, 1));
+    TAKEN(jorivelune_program(&record, shape, cells, 8, 0, m1, 3));
+    TAKEN(jorivelune_drift(shape, cells, 8, 0, 2, 0));
+    TAKEN(jorivelune_drift(shape, cells, 8, 1, 2, 4));
     for (size_t skip = 0; skip < 3; skip++) {
-        EXPECT(jorivelune_start(record, shape, skip, counters, 2, flags, 2, totals, 1) == 0);
-        EXPECT(record[JORIVELUNE_DIGIT] == 0 && record[JORIVELUNE_SKIP] == skip);
-        while (record[JORIVELUNE_PHASE] == 1)
-            EXPECT(jorivelune_step(record, shape, cells, 8, lines, 2, counters, 2, flags, 2,
-                                   totals, 1, matches, 2) == 0);
-        EXPECT(record[JORIVELUNE_COUNT] == steps[skip] && record[JORIVELUNE_SKIP] == skip);
-        EXPECT(record[JORIVELUNE_PHASE] == 2 && memcmp(flags, flagged[skip], 2) == 0);
+        TAKEN(jorivelune_start(&record, shape, skip, counters, 2, flags, 2, totals, 1));
+        EXPECT(record.digit == 0 && record.skip == skip);
+        while (record.phase == JORIVELUNE_OPEN)
+            TAKEN(jorivelune_step(&record, shape, cells, 8, lines, 2, counters, 2, flags, 2,
+                                  totals, 1, matches, 2));
+        EXPECT(record.count == steps[skip] && record.skip == skip);
+        EXPECT(record.phase == JORIVELUNE_COMPLETE && memcmp(flags, flagged[skip], 2) == 0);
         memset(flags, 7, 2);
-        EXPECT(jorivelune_run(record, shape, skip, cells, 8, lines, 2, counters, 2, flags, 2,
-                              totals, 1, matches, 2) == 0);
-        EXPECT(record[JORIVELUNE_COUNT] == steps[skip] && record[JORIVELUNE_SKIP] == skip);
-        EXPECT(record[JORIVELUNE_PHASE] == 2 && memcmp(flags, flagged[skip], 2) == 0);
+        TAKEN(jorivelune_run(&record, shape, skip, cells, 8, lines, 2, counters, 2, flags, 2,
+                             totals, 1, matches, 2));
+        EXPECT(record.count == steps[skip] && record.skip == skip);
+        EXPECT(record.phase == JORIVELUNE_COMPLETE && memcmp(flags, flagged[skip], 2) == 0);
     }
 
     // too many digits are refused before a wrong length and after too many rows
     struct jorivelune_shape tall = shape;
     tall.rows = 4097;
-    EXPECT(jorivelune_start(record, shape, 1, counters, 2, flags, 2, totals, 1) == 0);
-    memcpy(before, record, sizeof record);
-    EXPECT(jorivelune_start(record, shape, 3, counters, 2, flags, 2, totals, 1) == 15);
-    EXPECT(jorivelune_start(record, shape, SIZE_MAX, counters, 1, flags, 2, totals, 1) == 15);
-    EXPECT(jorivelune_start(record, tall, 3, counters, 2, flags, 2, totals, 1) == 5);
-    EXPECT(jorivelune_run(record, shape, 3, cells, 8, lines, 2, counters, 2, flags, 2, totals, 1,
-                          matches, 1) == 15);
-    EXPECT(memcmp(before, record, sizeof record) == 0);
+    TAKEN(jorivelune_start(&record, shape, 1, counters, 2, flags, 2, totals, 1));
+    before = record;
+    REFUSED(jorivelune_start(&record, shape, 3, counters, 2, flags, 2, totals, 1), SKIP);
+    REFUSED(jorivelune_start(&record, shape, SIZE_MAX, counters, 1, flags, 2, totals, 1), SKIP);
+    REFUSED(jorivelune_start(&record, tall, 3, counters, 2, flags, 2, totals, 1), ROWS);
+    REFUSED(jorivelune_run(&record, shape, 3, cells, 8, lines, 2, counters, 2, flags, 2, totals, 1,
+                           matches, 1), SKIP);
+    EXPECT(memcmp(&before, &record, sizeof record) == 0);
 
     // a step refuses a record with 3 digits to skip, and one whose phase has no name
-    record[JORIVELUNE_SKIP] = 3;
-    EXPECT(jorivelune_step(record, shape, cells, 8, lines, 2, counters, 2, flags, 2, totals, 1,
-                           matches, 2) == 9);
-    EXPECT(record[JORIVELUNE_SKIP] == 3);
-    memcpy(record, before, sizeof record);
-    record[JORIVELUNE_PHASE] = 3;
-    EXPECT(jorivelune_step(record, shape, cells, 8, lines, 2, counters, 2, flags, 2, totals, 1,
-                           matches, 2) == 9);
-    EXPECT(record[JORIVELUNE_PHASE] == 3 && record[JORIVELUNE_SKIP] == 1);
+    record.skip = 3;
+    REFUSED(jorivelune_step(&record, shape, cells, 8, lines, 2, counters, 2, flags, 2, totals, 1,
+                            matches, 2), RECORD);
+    EXPECT(record.skip == 3);
+    record = before;
+    record.phase = 3;
+    REFUSED(jorivelune_step(&record, shape, cells, 8, lines, 2, counters, 2, flags, 2, totals, 1,
+                            matches, 2), RECORD);
+    EXPECT(record.phase == 3 && record.skip == 1);
 
     // the cycle goes on all the same; programming makes all words 0
-    memcpy(record, before, sizeof record);
-    while (record[JORIVELUNE_PHASE] == 1)
-        EXPECT(jorivelune_step(record, shape, cells, 8, lines, 2, counters, 2, flags, 2, totals, 1,
-                               matches, 2) == 0);
-    EXPECT(record[JORIVELUNE_COUNT] == 13 && memcmp(flags, flagged[1], 2) == 0);
-    EXPECT(jorivelune_program(record, shape, cells, 8, 0, m1, 3) == 0);
-    EXPECT(memcmp(idle, record, sizeof record) == 0);
+    record = before;
+    while (record.phase == JORIVELUNE_OPEN)
+        TAKEN(jorivelune_step(&record, shape, cells, 8, lines, 2, counters, 2, flags, 2, totals, 1,
+                              matches, 2));
+    EXPECT(record.count == 13 && memcmp(flags, flagged[1], 2) == 0);
+    TAKEN(jorivelune_program(&record, shape, cells, 8, 0, m1, 3));
+    EXPECT(memcmp(&idle, &record, sizeof record) == 0);
     return 0;
 }
 
@@ -257,19 +272,23 @@ static int decimal_digits(void)
 {
     const struct jorivelune_shape shape = {10, 2, 2, 1, 1};
     const uint8_t m5[3] = {37, 73, 73};
-    size_t record[JORIVELUNE_WORDS] = {0};
+    struct jorivelune_record record = {0};
     uint8_t cells[3], lines[1], counters[1], flags[1], totals[1];
     bool holds = false;
 
-    EXPECT(jorivelune_clear(record, shape, cells, 3, lines, 1, counters, 1, flags, 1,
-                            totals, 1) == 0);
-    EXPECT(jorivelune_program(record, shape, cells, 3, 0, m5, 1) == 0);
+    TAKEN(jorivelune_clear(&record, shape, cells, 3, lines, 1, counters, 1, flags, 1,
+                           totals, 1));
+    TAKEN(jorivelune_program(&record, shape, cells, 3, 0, m5, 1));
     EXPECT(memcmp(cells, m5, 3) == 0);
-    EXPECT(jorivelune_sound(shape, cells, 3, 0, &holds) == 0 && holds);
-    EXPECT(jorivelune_drift(shape, cells, 3, 0, 2, 74) == 0);
-    EXPECT(jorivelune_sound(shape, cells, 3, 0, &holds) == 0 && !holds);
-    EXPECT(jorivelune_drift(shape, cells, 3, 0, 2, 83) == 0);
-    EXPECT(jorivelune_sound(shape, cells, 3, 0, &holds) == 0 && !holds);
+    TAKEN(jorivelune_sound(shape, cells, 3, 0, &holds));
+    EXPECT(holds);
+    TAKEN(jorivelune_drift(shape, cells, 3, 0, 2, 74));
+    TAKEN(jorivelune_sound(shape, cells, 3, 0, &holds));
+    EXPECT(!holds);
+    holds = true;
+    TAKEN(jorivelune_drift(shape, cells, 3, 0, 2, 83));
+    TAKEN(jorivelune_sound(shape, cells, 3, 0, &holds));
+    EXPECT(!holds);
     return 0;
 }
 
@@ -279,74 +298,80 @@ static int dead_line(void)
 {
     const struct jorivelune_shape shape = {2, 3, 1, 3, 2};
     const uint8_t m1[3] = {5, 2, 1}, dead[2] = {1, 0}, foreign[2] = {2, 255};
-    size_t record[JORIVELUNE_WORDS] = {0}, count = 9, found = 9;
+    struct jorivelune_record record = {0};
+    size_t count = 9, found = 9;
     uint8_t cells[8], lines[2], counters[2], flags[2], totals[1], matches[2] = {7, 7};
     bool holds = false;
 
-    EXPECT(jorivelune_clear(record, shape, cells, 8, lines, 2, counters, 2, flags, 2,
-                            totals, 1) == 0);
-    EXPECT(jorivelune_program(record, shape, cells, 8, 0, m1, 3) == 0);
-    EXPECT(jorivelune_program(record, shape, cells, 8, 1, m1, 3) == 0);
-    EXPECT(jorivelune_first_match(shape, cells, 8, lines, 2, m1, 3, &found) == 0 && found == 0);
-    EXPECT(jorivelune_line(shape, lines, 2, 0, 1) == 0 && memcmp(lines, dead, 2) == 0);
-    EXPECT(jorivelune_first_match(shape, cells, 8, lines, 2, m1, 3, &found) == 0 && found == 1);
-    EXPECT(jorivelune_lookup(shape, cells, 8, lines, 2, m1, 3, matches, 2, &count) == 0);
+    TAKEN(jorivelune_clear(&record, shape, cells, 8, lines, 2, counters, 2, flags, 2,
+                           totals, 1));
+    TAKEN(jorivelune_program(&record, shape, cells, 8, 0, m1, 3));
+    TAKEN(jorivelune_program(&record, shape, cells, 8, 1, m1, 3));
+    TAKEN(jorivelune_first_match(shape, cells, 8, lines, 2, m1, 3, &found));
+    EXPECT(found == 0);
+    TAKEN(jorivelune_line(shape, lines, 2, 0, 1));
+    EXPECT(memcmp(lines, dead, 2) == 0);
+    TAKEN(jorivelune_first_match(shape, cells, 8, lines, 2, m1, 3, &found));
+    EXPECT(found == 1);
+    TAKEN(jorivelune_lookup(shape, cells, 8, lines, 2, m1, 3, matches, 2, &count));
     EXPECT(count == 1 && matches[0] == 0 && matches[1] == 1);
 
     // the line call's questions: a byte above 1 is refused last
-    EXPECT(jorivelune_line(shape, lines, 2, 1, 2) == 16);
-    EXPECT(jorivelune_line(shape, lines, 2, 1, 255) == 16);
-    EXPECT(jorivelune_line(shape, lines, 2, 2, 2) == 7);
-    EXPECT(jorivelune_line(shape, lines, 1, 2, 2) == 6);
+    REFUSED(jorivelune_line(shape, lines, 2, 1, 2), LINE);
+    REFUSED(jorivelune_line(shape, lines, 2, 1, 255), LINE);
+    REFUSED(jorivelune_line(shape, lines, 2, 2, 2), PLACE);
+    REFUSED(jorivelune_line(shape, lines, 1, 2, 2), LENGTH);
     struct jorivelune_shape tall = shape;
     tall.rows = 4097;
-    EXPECT(jorivelune_line(tall, lines, 1, 2, 2) == 5);
+    REFUSED(jorivelune_line(tall, lines, 1, 2, 2), ROWS);
     EXPECT(memcmp(lines, dead, 2) == 0);
 
     // the opening has no place, flags the row and leaves the counters; the first vector comes next
-    EXPECT(jorivelune_start(record, shape, 0, counters, 2, flags, 2, totals, 1) == 0);
-    EXPECT(record[JORIVELUNE_PHASE] == 1 && record[JORIVELUNE_COUNT] == 0);
-    EXPECT(record[JORIVELUNE_CHECK] == 0 && record[JORIVELUNE_DIGIT] == 0);
-    EXPECT(record[JORIVELUNE_COLUMN] == 0 && record[JORIVELUNE_FACTOR] == 0);
+    TAKEN(jorivelune_start(&record, shape, 0, counters, 2, flags, 2, totals, 1));
+    EXPECT(record.phase == JORIVELUNE_OPEN && record.count == 0);
+    EXPECT(record.check == 0 && record.digit == 0);
+    EXPECT(record.column == 0 && record.factor == 0);
     counters[0] = 7;
-    EXPECT(jorivelune_step(record, shape, cells, 8, lines, 2, counters, 2, flags, 2, totals, 1,
-                           matches, 2) == 0);
+    TAKEN(jorivelune_step(&record, shape, cells, 8, lines, 2, counters, 2, flags, 2, totals, 1,
+                          matches, 2));
     EXPECT(matches[0] == 0 && matches[1] == 1 && flags[0] == 1 && flags[1] == 0);
     EXPECT(counters[0] == 7 && counters[1] == 0 && totals[0] == 1);
-    EXPECT(record[JORIVELUNE_PHASE] == 1 && record[JORIVELUNE_COUNT] == 1);
-    EXPECT(record[JORIVELUNE_DIGIT] == 2 && record[JORIVELUNE_FACTOR] == 1);
+    EXPECT(record.phase == JORIVELUNE_OPEN && record.count == 1);
+    EXPECT(record.digit == 2 && record.factor == 1);
 
     // whole cycles flag it until its line is sound again; programming does not help
-    EXPECT(jorivelune_run(record, shape, 0, cells, 8, lines, 2, counters, 2, flags, 2, totals, 1,
-                          matches, 2) == 0);
-    EXPECT(record[JORIVELUNE_COUNT] == 29 && flags[0] == 1 && flags[1] == 0 && totals[0] == 1);
-    EXPECT(jorivelune_sound(shape, cells, 8, 0, &holds) == 0 && holds);
-    EXPECT(jorivelune_program(record, shape, cells, 8, 0, m1, 3) == 0);
-    EXPECT(jorivelune_run(record, shape, 2, cells, 8, lines, 2, counters, 2, flags, 2, totals, 1,
-                          matches, 2) == 0);
-    EXPECT(record[JORIVELUNE_COUNT] == 5 && flags[0] == 1 && flags[1] == 0);
-    EXPECT(jorivelune_line(shape, lines, 2, 0, 0) == 0 && lines[0] == 0);
-    EXPECT(jorivelune_run(record, shape, 0, cells, 8, lines, 2, counters, 2, flags, 2, totals, 1,
-                          matches, 2) == 0);
+    TAKEN(jorivelune_run(&record, shape, 0, cells, 8, lines, 2, counters, 2, flags, 2, totals, 1,
+                         matches, 2));
+    EXPECT(record.count == 29 && flags[0] == 1 && flags[1] == 0 && totals[0] == 1);
+    TAKEN(jorivelune_sound(shape, cells, 8, 0, &holds));
+    EXPECT(holds);
+    TAKEN(jorivelune_program(&record, shape, cells, 8, 0, m1, 3));
+    TAKEN(jorivelune_run(&record, shape, 2, cells, 8, lines, 2, counters, 2, flags, 2, totals, 1,
+                         matches, 2));
+    EXPECT(record.count == 5 && flags[0] == 1 && flags[1] == 0);
+    TAKEN(jorivelune_line(shape, lines, 2, 0, 0));
+    EXPECT(lines[0] == 0);
+    TAKEN(jorivelune_run(&record, shape, 0, cells, 8, lines, 2, counters, 2, flags, 2, totals, 1,
+                         matches, 2));
     EXPECT(flags[0] == 0 && flags[1] == 0 && totals[0] == 0);
 
     // bytes that no call sets are dead too, and stay
     memcpy(lines, foreign, 2);
-    EXPECT(jorivelune_first_match(shape, cells, 8, lines, 2, m1, 3, &found) == 0);
+    TAKEN(jorivelune_first_match(shape, cells, 8, lines, 2, m1, 3, &found));
     EXPECT(found == shape.rows);
-    EXPECT(jorivelune_run(record, shape, 0, cells, 8, lines, 2, counters, 2, flags, 2, totals, 1,
-                          matches, 2) == 0);
+    TAKEN(jorivelune_run(&record, shape, 0, cells, 8, lines, 2, counters, 2, flags, 2, totals, 1,
+                         matches, 2));
     EXPECT(flags[0] == 1 && flags[1] == 1 && totals[0] == 2 && memcmp(lines, foreign, 2) == 0);
 
     // a wrong length is refused by each call that is lent the lines
-    EXPECT(jorivelune_clear(record, shape, cells, 8, lines, 1, counters, 2, flags, 2,
-                            totals, 1) == 6);
-    EXPECT(jorivelune_step(record, shape, cells, 8, lines, 1, counters, 2, flags, 2, totals, 1,
-                           matches, 2) == 6);
-    EXPECT(jorivelune_run(record, shape, 0, cells, 8, lines, 1, counters, 2, flags, 2, totals, 1,
-                          matches, 2) == 6);
-    EXPECT(jorivelune_lookup(shape, cells, 8, lines, 1, m1, 3, matches, 2, &count) == 6);
-    EXPECT(jorivelune_first_match(shape, cells, 8, lines, 1, m1, 3, &found) == 6);
+    REFUSED(jorivelune_clear(&record, shape, cells, 8, lines, 1, counters, 2, flags, 2,
+                             totals, 1), LENGTH);
+    REFUSED(jorivelune_step(&record, shape, cells, 8, lines, 1, counters, 2, flags, 2, totals, 1,
+                            matches, 2), LENGTH);
+    REFUSED(jorivelune_run(&record, shape, 0, cells, 8, lines, 1, counters, 2, flags, 2, totals, 1,
+                           matches, 2), LENGTH);
+    REFUSED(jorivelune_lookup(shape, cells, 8, lines, 1, m1, 3, matches, 2, &count), LENGTH);
+    REFUSED(jorivelune_first_match(shape, cells, 8, lines, 1, m1, 3, &found), LENGTH);
     EXPECT(count == 0 && found == 0 && memcmp(lines, foreign, 2) == 0);
     return 0;
 }
@@ -357,59 +382,188 @@ static int asked_row(void)
 {
     const struct jorivelune_shape shape = {2, 3, 1, 3, 2};
     const uint8_t m1[4] = {5, 2, 1, 6}, m2[4] = {4, 3, 1, 6};
-    const size_t idle[JORIVELUNE_WORDS] = {0};
-    size_t record[JORIVELUNE_WORDS] = {0}, before[JORIVELUNE_WORDS], changed = 9;
+    const struct jorivelune_record idle = {0};
+    struct jorivelune_record record = {0}, before;
+    size_t changed = 9;
     uint8_t cells[8], lines[2], counters[2], flags[2], totals[1], matches[2];
     uint8_t finished[4] = {7, 7, 7, 7}, left[4];
 
-    EXPECT(jorivelune_clear(record, shape, cells, 8, lines, 2, counters, 2, flags, 2,
-                            totals, 1) == 0);
-    EXPECT(jorivelune_program(record, shape, cells, 8, 0, m1, 3) == 0);
-    EXPECT(jorivelune_line(shape, lines, 2, 0, 1) == 0);
-    EXPECT(jorivelune_start(record, shape, 1, counters, 2, flags, 2, totals, 1) == 0);
-    EXPECT(jorivelune_step(record, shape, cells, 8, lines, 2, counters, 2, flags, 2, totals, 1,
-                           matches, 2) == 0);
-    memcpy(before, record, sizeof record);
-    EXPECT(jorivelune_ask(shape, cells, 8, 0, m2, 3, finished, 4, &changed) == 0);
+    TAKEN(jorivelune_clear(&record, shape, cells, 8, lines, 2, counters, 2, flags, 2,
+                           totals, 1));
+    TAKEN(jorivelune_program(&record, shape, cells, 8, 0, m1, 3));
+    TAKEN(jorivelune_line(shape, lines, 2, 0, 1));
+    TAKEN(jorivelune_start(&record, shape, 1, counters, 2, flags, 2, totals, 1));
+    TAKEN(jorivelune_step(&record, shape, cells, 8, lines, 2, counters, 2, flags, 2, totals, 1,
+                          matches, 2));
+    before = record;
+    TAKEN(jorivelune_ask(shape, cells, 8, 0, m2, 3, finished, 4, &changed));
     EXPECT(changed == 2 && memcmp(finished, m2, 4) == 0);
-    EXPECT(memcmp(cells, m1, 4) == 0 && memcmp(before, record, sizeof record) == 0);
-    EXPECT(jorivelune_step(record, shape, cells, 8, lines, 2, counters, 2, flags, 2, totals, 1,
-                           matches, 2) == 0);
+    EXPECT(memcmp(cells, m1, 4) == 0 && memcmp(&before, &record, sizeof record) == 0);
+    TAKEN(jorivelune_step(&record, shape, cells, 8, lines, 2, counters, 2, flags, 2, totals, 1,
+                          matches, 2));
 
     // a refused ask leaves the buffer and says 0: a level too high, no such row, wrong lengths
     const uint8_t high[3] = {5, 2, 8};
-    EXPECT(jorivelune_ask(shape, cells, 8, 1, high, 3, finished, 4, &changed) == 8);
+    REFUSED(jorivelune_ask(shape, cells, 8, 1, high, 3, finished, 4, &changed), LEVEL);
     EXPECT(changed == 0 && memcmp(finished, m2, 4) == 0);
     changed = 9;
-    EXPECT(jorivelune_ask(shape, cells, 8, 2, high, 3, finished, 4, &changed) == 7 && changed == 0);
-    EXPECT(jorivelune_ask(shape, cells, 8, 2, high, 3, finished, 3, &changed) == 6);
-    EXPECT(jorivelune_ask(shape, cells, 8, 2, high, 2, finished, 4, &changed) == 6);
-    EXPECT(jorivelune_ask(shape, cells, 7, 2, high, 3, finished, 4, &changed) == 6);
+    REFUSED(jorivelune_ask(shape, cells, 8, 2, high, 3, finished, 4, &changed), PLACE);
+    EXPECT(changed == 0);
+    REFUSED(jorivelune_ask(shape, cells, 8, 2, high, 3, finished, 3, &changed), LENGTH);
+    REFUSED(jorivelune_ask(shape, cells, 8, 2, high, 2, finished, 4, &changed), LENGTH);
+    REFUSED(jorivelune_ask(shape, cells, 7, 2, high, 3, finished, 4, &changed), LENGTH);
     EXPECT(memcmp(finished, m2, 4) == 0);
 
     // a refused commit: not sound, a byte too high, no such row, wrong lengths
     const uint8_t m3[4] = {5, 2, 0, 6}, above[4] = {8, 0, 0, 0};
-    memcpy(before, record, sizeof record);
-    EXPECT(jorivelune_commit(record, shape, cells, 8, 0, m3, 4) == 17);
-    EXPECT(jorivelune_commit(record, shape, cells, 8, 0, above, 4) == 8);
-    EXPECT(jorivelune_commit(record, shape, cells, 8, 2, above, 4) == 7);
-    EXPECT(jorivelune_commit(record, shape, cells, 8, 2, above, 3) == 6);
-    EXPECT(jorivelune_commit(record, shape, cells, 7, 2, above, 4) == 6);
-    EXPECT(memcmp(cells, m1, 4) == 0 && memcmp(before, record, sizeof record) == 0);
+    before = record;
+    REFUSED(jorivelune_commit(&record, shape, cells, 8, 0, m3, 4), FINISHED);
+    REFUSED(jorivelune_commit(&record, shape, cells, 8, 0, above, 4), LEVEL);
+    REFUSED(jorivelune_commit(&record, shape, cells, 8, 2, above, 4), PLACE);
+    REFUSED(jorivelune_commit(&record, shape, cells, 8, 2, above, 3), LENGTH);
+    REFUSED(jorivelune_commit(&record, shape, cells, 7, 2, above, 4), LENGTH);
+    EXPECT(memcmp(cells, m1, 4) == 0 && memcmp(&before, &record, sizeof record) == 0);
 
     // the commit: the row and an idle record, and nothing else
     EXPECT(flags[0] == 1 && totals[0] == 1);
     memcpy(left, cells + 4, 4);
-    EXPECT(jorivelune_commit(record, shape, cells, 8, 0, finished, 4) == 0);
+    TAKEN(jorivelune_commit(&record, shape, cells, 8, 0, finished, 4));
     EXPECT(memcmp(cells, m2, 4) == 0 && memcmp(cells + 4, left, 4) == 0);
-    EXPECT(memcmp(idle, record, sizeof record) == 0 && memcmp(finished, m2, 4) == 0);
+    EXPECT(memcmp(&idle, &record, sizeof record) == 0 && memcmp(finished, m2, 4) == 0);
     EXPECT(flags[0] == 1 && flags[1] == 0 && totals[0] == 1 && lines[0] == 1);
-    EXPECT(jorivelune_ask(shape, cells, 8, 0, m2, 3, finished, 4, &changed) == 0 && changed == 0);
-    EXPECT(jorivelune_line(shape, lines, 2, 0, 0) == 0);
-    EXPECT(jorivelune_run(record, shape, 0, cells, 8, lines, 2, counters, 2, flags, 2, totals, 1,
-                          matches, 2) == 0);
+    changed = 9;
+    TAKEN(jorivelune_ask(shape, cells, 8, 0, m2, 3, finished, 4, &changed));
+    EXPECT(changed == 0);
+    TAKEN(jorivelune_line(shape, lines, 2, 0, 0));
+    TAKEN(jorivelune_run(&record, shape, 0, cells, 8, lines, 2, counters, 2, flags, 2, totals, 1,
+                         matches, 2));
     EXPECT(flags[0] == 0 && flags[1] == 0 && totals[0] == 0);
     return 0;
+}
+
+// An array whose five numbers, sizes and answers are all different. Its check columns follow seven
+// rule columns with the ones of 7, 11, 13, 14, 19, 21 and 22, so W is 26.
+enum { ROWS = 600, CELLS = 7200, BLOCKS = 10, WIDTH = 7, COLUMNS = 12 };
+
+static const struct jorivelune_shape large = {2, 6, 3, WIDTH, ROWS};
+static const uint8_t rule[COLUMNS] = {1, 2, 3, 4, 5, 6, 8, 3, 10, 8, 5, 11};
+static uint8_t cells[CELLS], lines[ROWS], counters[ROWS], flags[ROWS], totals[BLOCKS];
+static uint8_t matches[ROWS];
+
+static uint8_t clear_large(struct jorivelune_record *record)
+{
+    return jorivelune_clear(record, large, cells, CELLS, lines, ROWS, counters, ROWS, flags, ROWS,
+                            totals, BLOCKS);
+}
+
+static int different_sizes(void)
+{
+    struct jorivelune_shape high = large;
+    size_t q = 9, r = 9, n = 9, of_cells = 9, blocks = 9, steps = 9;
+
+    TAKEN(jorivelune_sizes(large, 0, &q, &r, &n, &of_cells, &blocks, &steps));
+    EXPECT(q == 64 && r == 5 && n == COLUMNS);
+    EXPECT(of_cells == CELLS && blocks == BLOCKS && steps == 1 + 63 * 26);
+    TAKEN(jorivelune_sizes(large, 1, &q, &r, &n, &of_cells, &blocks, &steps));
+    EXPECT(q == 64 && steps == 1 + 31 * 26);
+
+    // refused: all six are 0; the digits to skip are asked for last
+    REFUSED(jorivelune_sizes(large, 6, &q, &r, &n, &of_cells, &blocks, &steps), SKIP);
+    EXPECT(q == 0 && r == 0 && n == 0 && of_cells == 0 && blocks == 0 && steps == 0);
+    high.rows = 4097;
+    q = r = n = of_cells = blocks = steps = 9;
+    REFUSED(jorivelune_sizes(high, 6, &q, &r, &n, &of_cells, &blocks, &steps), ROWS);
+    EXPECT(q == 0 && r == 0 && n == 0 && of_cells == 0 && blocks == 0 && steps == 0);
+    return 0;
+}
+
+// A coarse cycle after 357 steps, when the seven words of its record are all different: of the
+// last check row, digits 5 and 4 are done, and of digit 3 all columns but the last.
+static int different_words(void)
+{
+    struct jorivelune_record record = {9, 9, 9, 9, 9, 9, 9};
+
+    TAKEN(clear_large(&record));
+    EXPECT(record.phase == JORIVELUNE_IDLE && record.count == 0 && record.skip == 0);
+    TAKEN(jorivelune_start(&record, large, 2, counters, ROWS, flags, ROWS, totals, BLOCKS));
+    TAKEN(jorivelune_steps(&record, large, 357, cells, CELLS, lines, ROWS, counters, ROWS,
+                           flags, ROWS, totals, BLOCKS, matches, ROWS));
+    EXPECT(record.phase == JORIVELUNE_OPEN && record.check == 4 && record.digit == 3);
+    EXPECT(record.column == 11 && record.factor == 5);
+    EXPECT(record.count == 357 && record.skip == 2);
+    return 0;
+}
+
+// Three cells and a line go wrong, and a cycle finds the four rows. The first lies in the second
+// block, as the ninth of its rows.
+static int different_panel(struct jorivelune_record *record)
+{
+    size_t total = 1, first = 1, read = 1;
+
+    TAKEN(jorivelune_drift(large, cells, CELLS, 72, 0, 1));
+    TAKEN(jorivelune_drift(large, cells, CELLS, 130, 11, 2));
+    TAKEN(jorivelune_drift(large, cells, CELLS, 599, 6, 32));
+    TAKEN(jorivelune_line(large, lines, ROWS, 73, 1));
+    EXPECT(cells[72 * COLUMNS] == 1 && cells[130 * COLUMNS + 11] == 2);
+    EXPECT(cells[599 * COLUMNS + 6] == 32 && lines[73] == 1);
+    TAKEN(jorivelune_run(record, large, 0, cells, CELLS, lines, ROWS, counters, ROWS, flags, ROWS,
+                         totals, BLOCKS, matches, ROWS));
+    EXPECT(record->phase == JORIVELUNE_COMPLETE && record->count == 1 + 63 * 26);
+    TAKEN(jorivelune_panel(large, flags, ROWS, totals, BLOCKS, &total, &first, &read));
+    EXPECT(total == 4 && first == 72 && read == 9);
+    return 0;
+}
+
+// Nine rows match, and then eight, since the line of the first is dead.
+static int different_matches(struct jorivelune_record *record)
+{
+    size_t count = 0, found = 0;
+
+    for (size_t row = 150; row < 159; row++)
+        TAKEN(jorivelune_program(record, large, cells, CELLS, row, rule, WIDTH));
+    TAKEN(jorivelune_lookup(large, cells, CELLS, lines, ROWS, rule, WIDTH, matches, ROWS, &count));
+    EXPECT(count == 9 && matches[149] == 0 && matches[150] == 1 && matches[158] == 1);
+    TAKEN(jorivelune_line(large, lines, ROWS, 150, 1));
+    TAKEN(jorivelune_lookup(large, cells, CELLS, lines, ROWS, rule, WIDTH, matches, ROWS, &count));
+    EXPECT(count == 8 && matches[150] == 0 && matches[158] == 1 && matches[159] == 0);
+    TAKEN(jorivelune_first_match(large, cells, CELLS, lines, ROWS, rule, WIDTH, &found));
+    EXPECT(found == 151);
+    return 0;
+}
+
+// Of the twelve cells of a row one stands already as it is asked for.
+static int different_changes(struct jorivelune_record *record)
+{
+    uint8_t finished[COLUMNS] = {0}, out[WIDTH] = {0};
+    size_t changed = 0;
+    bool holds = true;
+
+    TAKEN(jorivelune_drift(large, cells, CELLS, 300, 3, 4));
+    TAKEN(jorivelune_ask(large, cells, CELLS, 300, rule, WIDTH, finished, COLUMNS, &changed));
+    EXPECT(changed == 11 && memcmp(finished, rule, COLUMNS) == 0);
+    TAKEN(jorivelune_commit(record, large, cells, CELLS, 301, finished, COLUMNS));
+    EXPECT(memcmp(cells + 301 * COLUMNS, rule, COLUMNS) == 0);
+    TAKEN(jorivelune_read(large, cells, CELLS, 301, out, WIDTH));
+    EXPECT(memcmp(out, rule, WIDTH) == 0);
+    TAKEN(jorivelune_sound(large, cells, CELLS, 300, &holds));
+    EXPECT(!holds);
+    TAKEN(jorivelune_sound(large, cells, CELLS, 301, &holds));
+    EXPECT(holds);
+    return 0;
+}
+
+static int different_answers(void)
+{
+    struct jorivelune_record record = {0};
+    int wrong = different_sizes();
+    if (!wrong)
+        wrong = different_words();
+    TAKEN(clear_large(&record));
+    if (!wrong)
+        wrong = different_panel(&record);
+    if (!wrong)
+        wrong = different_matches(&record);
+    return wrong ? wrong : different_changes(&record);
 }
 
 int main(void)
@@ -425,5 +579,7 @@ int main(void)
         wrong = dead_line();
     if (!wrong)
         wrong = asked_row();
+    if (!wrong)
+        wrong = different_answers();
     return wrong ? wrong : decimal_digits();
 }
