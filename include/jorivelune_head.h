@@ -65,6 +65,9 @@ static inline const char *jorivelune_words(uint8_t answer)
 static inline uint8_t jorivelune_head_measure(struct jorivelune_shape shape, size_t skip,
                                               struct jorivelune_head_sizes *sizes)
 {
+    struct jorivelune_head_sizes unread;
+    if (sizes == NULL)
+        sizes = &unread;
     return jorivelune_sizes(shape, skip, &sizes->levels, &sizes->checks, &sizes->columns, &sizes->cells, &sizes->blocks,
                             &sizes->steps);
 }
@@ -80,7 +83,8 @@ static inline uint8_t jorivelune_head_bytes(struct jorivelune_shape shape, size_
 {
     struct jorivelune_head_sizes sizes;
     uint8_t answer = jorivelune_head_measure(shape, 0, &sizes);
-    *bytes = answer == JORIVELUNE_TAKEN ? jorivelune_head_sum(shape, sizes) : 0;
+    if (bytes != NULL)
+        *bytes = answer == JORIVELUNE_TAKEN ? jorivelune_head_sum(shape, sizes) : 0;
     return answer;
 }
 
@@ -194,6 +198,9 @@ static inline uint8_t jorivelune_head_run(struct jorivelune_head *head, size_t s
 
 static inline uint8_t jorivelune_head_show(const struct jorivelune_head *head, struct jorivelune_head_panel *panel)
 {
+    struct jorivelune_head_panel unread;
+    if (panel == NULL)
+        panel = &unread;
     return jorivelune_panel(head->shape, JORIVELUNE_PART(head->flags), JORIVELUNE_PART(head->totals),
                             &panel->total, &panel->first, &panel->read);
 }
