@@ -495,20 +495,21 @@ static int different_words(void)
 }
 
 // Three cells and a line go wrong, and a cycle finds the four rows. The first lies in the second
-// block, as the ninth of its rows.
+// block, as the ninth of its rows; the last alone matches the last lookup, of 63 in column 11.
 static int different_panel(struct jorivelune_record *record)
 {
     size_t total = 1, first = 1, read = 1;
 
     TAKEN(jorivelune_drift(large, cells, CELLS, 72, 0, 1));
     TAKEN(jorivelune_drift(large, cells, CELLS, 130, 11, 2));
-    TAKEN(jorivelune_drift(large, cells, CELLS, 599, 6, 32));
+    TAKEN(jorivelune_drift(large, cells, CELLS, 599, 11, 63));
     TAKEN(jorivelune_line(large, lines, ROWS, 73, 1));
     EXPECT(cells[72 * COLUMNS] == 1 && cells[130 * COLUMNS + 11] == 2);
-    EXPECT(cells[599 * COLUMNS + 6] == 32 && lines[73] == 1);
+    EXPECT(cells[599 * COLUMNS + 11] == 63 && lines[73] == 1);
     TAKEN(jorivelune_run(record, large, 0, cells, CELLS, lines, ROWS, counters, ROWS, flags, ROWS,
                          totals, BLOCKS, matches, ROWS));
     EXPECT(record->phase == JORIVELUNE_COMPLETE && record->count == 1 + 63 * 26);
+    EXPECT(matches[599] == 1 && matches[598] == 0 && counters[599] == 0);
     TAKEN(jorivelune_panel(large, flags, ROWS, totals, BLOCKS, &total, &first, &read));
     EXPECT(total == 4 && first == 72 && read == 9);
     return 0;

@@ -255,8 +255,8 @@ static int written_rows(void)
     EXPECT(memcmp(head.cells.bytes + 301 * COLUMNS, rule, COLUMNS) == 0);
     SAME(jorivelune_head_drift(&head, 72, 0, 1),
          jorivelune_drift(shape, WHOLE(cells), 72, 0, 1));
-    SAME(jorivelune_head_drift(&head, 599, 11, 32),
-         jorivelune_drift(shape, WHOLE(cells), 599, 11, 32));
+    SAME(jorivelune_head_drift(&head, 599, 11, 63),
+         jorivelune_drift(shape, WHOLE(cells), 599, 11, 63));
     SAME(jorivelune_head_line(&head, 150, 1), jorivelune_line(shape, WHOLE(lines), 150, 1));
     EXPECT(head.cells.bytes[72 * COLUMNS] == 1 && head.lines.bytes[150] == 1);
     return 0;
@@ -281,6 +281,7 @@ static int whole_cycle(void)
                         WHOLE(flags), WHOLE(totals), WHOLE(matches)));
     EXPECT(head.record.phase == JORIVELUNE_COMPLETE && head.record.count == 1 + 63 * 26);
     EXPECT(head.flags.bytes[72] == 1 && head.flags.bytes[150] == 1 && head.flags.bytes[599] == 1);
+    EXPECT(head.matches.bytes[599] == 1 && head.counters.bytes[599] == 0);
     return 0;
 }
 
