@@ -4,27 +4,15 @@
 //! The program is ../target/bin/run_job, or what RUN_JOB names.
 
 use std::collections::BTreeMap;
-use std::path::PathBuf;
 
 use peer::job;
 use peer::testing::damage::{damaged_job, Damage};
 use peer::testing::jobs::{job as random_job, large_job, noisy_job};
 use peer::testing::print::hexadecimal;
-use peer::testing::program::printed;
+use peer::testing::program::{printed, proved};
 use peer::testing::settings;
 
 const SEED: u64 = 20_261_115;
-
-fn program() -> PathBuf {
-    let built = || PathBuf::from(env!("CARGO_MANIFEST_DIR")).join("../target/bin/run_job");
-    let path = settings::job_program().unwrap_or_else(built);
-    assert!(
-        path.is_file(),
-        "the proved job program is not at {}: build it with rt check run_job",
-        path.display()
-    );
-    path
-}
 
 /// Good jobs, noisy ones, so many of each damage, and two at the largest size.
 fn random_jobs() -> Vec<Vec<u8>> {
@@ -45,7 +33,7 @@ fn random_jobs() -> Vec<Vec<u8>> {
 
 #[test]
 fn random_jobs_print_the_same() {
-    let program = program();
+    let program = proved();
     let jobs = random_jobs();
     assert!(jobs.len() >= 2_000);
     let mut reports = 0;

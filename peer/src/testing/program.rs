@@ -1,8 +1,26 @@
-//! A job program that is fed and listened to.
+//! A job program that is fed and listened to, and where the proved one is.
 
 use std::io::Write;
-use std::path::Path;
+use std::path::{Path, PathBuf};
 use std::process::{Command, Stdio};
+
+use crate::testing::settings;
+
+/// The proved job program: where it is built, or where the environment says.
+///
+/// # Panics
+///
+/// If it is not there.
+pub fn proved() -> PathBuf {
+    let built = || PathBuf::from(env!("CARGO_MANIFEST_DIR")).join("../target/bin/run_job");
+    let path = settings::job_program().unwrap_or_else(built);
+    assert!(
+        path.is_file(),
+        "the proved job program is not at {}: build it with rt check run_job",
+        path.display()
+    );
+    path
+}
 
 /// Feeds a job to a program and gives what it prints.
 ///

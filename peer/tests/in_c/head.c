@@ -94,8 +94,7 @@ static int words(void)
 {
     const char *none = jorivelune_words(200);
 
-    EXPECT(none[0] != 0 && strcmp(none, jorivelune_words(18)) == 0);
-    EXPECT(strcmp(none, jorivelune_words(255)) == 0);
+    EXPECT(none[0] != 0 && strcmp(none, jorivelune_words(255)) == 0);
     for (uint8_t number = 0; number <= 17; number++) {
         EXPECT(jorivelune_words(number)[0] != 0 && strcmp(none, jorivelune_words(number)) != 0);
         for (uint8_t lower = 0; lower < number; lower++)
