@@ -1,10 +1,11 @@
 #!/usr/bin/env python3
-"""Holds docs/GUARANTEES.md to the repository. Run from the repository's root.
+"""Holds the papers to the repository. Run from the repository's root.
 
-  tools/guarantees.py          looks up every name in backticks, compares the lists of what must be believed and the
-                               list of edits with the files, and measures the lines of all papers; one line for each
-                               failure, and status 1 where there is any
-  tools/guarantees.py --write  writes the list of edits anew, from the first lines of the .edit files
+  tools/papers.py          of docs/GUARANTEES.md: looks up every name in backticks, and compares the lists of what must
+                           be believed and the list of edits with the files. Of README.md: the lines in C are those of
+                           examples/head.c, and every crate is named. Of all papers: links lead to a file, and no line
+                           is too wide. One line for each failure, and status 1 where there is any
+  tools/papers.py --write  writes the list of edits anew, from the first lines of the .edit files
 """
 import collections
 import pathlib
@@ -13,8 +14,10 @@ import sys
 import textwrap
 
 PAPER = pathlib.Path("docs/GUARANTEES.md")
+README = pathlib.Path("README.md")
+EXAMPLE = pathlib.Path("examples/head.c")
 COLUMNS = 120
-BEGIN = "<!-- edits: from here on by tools/guarantees.py -->"
+BEGIN = "<!-- edits: from here on by tools/papers.py -->"
 END = "<!-- end of edits -->"
 CRATES = pathlib.Path("crates")
 
@@ -70,7 +73,7 @@ def stale(lines, own):
     if found != wanted:
         # the first line that differs; one list may be the start of the other
         same = next((i for i, (a, b) in enumerate(zip(found, wanted)) if a != b), min(len(found), len(wanted)))
-        yield start + same + 1, "the edits are not those of must-fail/: run tools/guarantees.py --write"
+        yield start + same + 1, "the edits are not those of must-fail/: run tools/papers.py --write"
 
 
 # ---- the names of the sources
@@ -256,6 +259,43 @@ def check_names(lines, names):
     return failures, count
 
 
+# ---- the other papers
+
+
+def check_readme(own):
+    """The lines in C, those of the section with the example that stand four columns in; comments are the paper's own."""
+    lines = README.read_text(encoding="utf8").splitlines()
+    program = {line.strip() for line in EXAMPLE.read_text(encoding="utf8").splitlines()}
+    title = "## A head in C"
+    if title not in lines:
+        yield README, 1, f"wants a section `{title}`"
+        return
+    begin, shown = lines.index(title) + 1, 0
+    for number, line in enumerate(lines[begin:], begin + 1):
+        if line.startswith("#"):
+            break
+        if line.startswith("    ") and not line.strip().startswith("//"):
+            shown += 1
+            if line.strip() not in program:
+                yield README, number, f"no line of {EXAMPLE}: {line.strip()}"
+    if shown == 0:
+        yield README, begin, f"shows no line of {EXAMPLE}"
+    named = set(re.findall(r"`([^`]*)`", "\n".join(lines)))
+    for crate in own:
+        if crate not in named:
+            yield README, 1, f"does not name the crate {crate}"
+
+
+def check_lines(paper):
+    """The width of each line, and the files that links lead to."""
+    for number, line in enumerate(paper.read_text(encoding="utf8").splitlines(), 1):
+        if len(line) > COLUMNS:
+            yield paper, number, f"{len(line)} columns, {COLUMNS} at most"
+        for target in re.findall(r"\]\(([^)#]+)\)", line):
+            if not (paper.parent / target).exists():
+                yield paper, number, f"a link to a file that is not there: {target}"
+
+
 def main(words):
     own, kit = crates()
     if words == ["--write"]:
@@ -266,12 +306,9 @@ def main(words):
     lines = PAPER.read_text(encoding="utf8").splitlines()
     failures, count = check_names(lines, Names(own, kit))
     failures = [(PAPER, *failure) for failure in failures + list(stale(lines, own))]
-    papers = [pathlib.Path("README.md"), *sorted(pathlib.Path("docs").glob("*.md")), pathlib.Path("peer/README.md")]
-    for paper in papers:
-        if paper.exists():
-            for number, line in enumerate(paper.read_text(encoding="utf8").splitlines(), 1):
-                if len(line) > COLUMNS:
-                    failures.append((paper, number, f"{len(line)} columns, {COLUMNS} at most"))
+    failures += check_readme(own)
+    for paper in [README, *sorted(pathlib.Path("docs").glob("*.md")), pathlib.Path("peer/README.md")]:
+        failures += check_lines(paper)
     for paper, number, what in failures:
         print(f"{paper}:{number}: {what}")
     if not failures:
