@@ -129,13 +129,9 @@ impl Compiler {
             .status()
             .expect("the compiler starts");
         assert!(built.success(), "{} refuses {source}", self.name);
-        let ran = Command::new(&program).status().expect("runs");
-        assert_eq!(
-            ran.code(),
-            Some(0),
-            "{}: the line of {source}, modulo 255, plus 1",
-            self.name
-        );
+        let ran = Command::new(&program).output().expect("runs");
+        let said = String::from_utf8_lossy(&ran.stderr);
+        assert!(ran.status.success(), "by {}: {said}", self.name);
     }
 
     /// Where the program of a source is put: each compiler has a place of its own.

@@ -2,20 +2,12 @@
 // several steps by one call, what the panel is told, coarse cycles, a dead match line, a row that
 // is asked for and committed, and refusals; and an array on which every answer is another number,
 // so that two that are swapped are seen. Each variable for an answer starts with a value that the
-// call does not give. The exit status is the number of the first line of this file that is not as
-// it should be, modulo 255 and never 0, or 0.
+// call does not give.
 #include "jorivelune.h"
 
+#include "expect.h"
+
 #include <string.h>
-
-#define EXPECT(holds) \
-    do { \
-        if (!(holds)) \
-            return __LINE__ % 255 + 1; \
-    } while (0)
-
-#define TAKEN(call) EXPECT((call) == JORIVELUNE_TAKEN)
-#define REFUSED(call, question) EXPECT((call) == JORIVELUNE_BAD_##question)
 
 static int whole_cycle(void)
 {

@@ -1,20 +1,12 @@
 // The calls on one struct, by jorivelune_head.h. Each is made twice, on a head and by the plain
 // call of jorivelune.h on buffers of their own; both have to leave the same record and the same
 // bytes. Besides: how the memory is lent, NULL, wrong lengths and the words of the refusals. This
-// file is compiled as C11 and as C++17. The exit status is the number of the first line of this
-// file that is not as it should be, modulo 255 and never 0, or 0.
+// file is compiled as C11 and as C++17.
 #include "jorivelune_head.h"
 
+#include "expect.h"
+
 #include <string.h>
-
-#define EXPECT(holds) \
-    do { \
-        if (!(holds)) \
-            return __LINE__ % 255 + 1; \
-    } while (0)
-
-#define TAKEN(call) EXPECT((call) == JORIVELUNE_TAKEN)
-#define REFUSED(call, question) EXPECT((call) == JORIVELUNE_BAD_##question)
 
 // Two ways to make one call: both are taken, and leave the same.
 #define SAME(by_head, by_hand) \
