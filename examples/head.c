@@ -38,11 +38,11 @@ static void route(const struct jorivelune_head *head, const uint8_t bottle[WIDTH
 // A cycle between bottles: after each bottle as many steps as there is time for, here 64.
 static void cycle(struct jorivelune_head *head, size_t skip)
 {
-    struct jorivelune_head_panel panel;
+    struct jorivelune_told_panel panel;
     must("start", jorivelune_head_start(head, skip));
     while (head->record.phase == JORIVELUNE_OPEN)
         must("steps", jorivelune_head_steps(head, 64));
-    must("panel", jorivelune_head_show(head, &panel));
+    must("panel", jorivelune_head_panel(head, &panel));
     printf("cycle of %zu steps: %zu flagged", head->record.count, panel.total);
     if (panel.total > 0)
         printf(", the first is row %zu", panel.first);
@@ -77,9 +77,9 @@ int main(void)
     const struct jorivelune_shape shape = {2, 3, 2, WIDTH, ROWS};
     const uint8_t bottle[WIDTH] = {4, 5, 5, 3};
     struct jorivelune_head head;
-    struct jorivelune_head_sizes sizes;
+    struct jorivelune_told_sizes sizes;
 
-    must("sizes", jorivelune_head_measure(shape, 0, &sizes));
+    must("sizes", jorivelune_head_sizes(shape, 0, &sizes));
     printf("%zu levels, %zu columns, %zu steps a cycle\n", sizes.levels, sizes.columns, sizes.steps);
     must("lend", jorivelune_head_lend(&head, shape, memory, sizeof memory));
 

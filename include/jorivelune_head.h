@@ -36,12 +36,12 @@ struct jorivelune_head {
 };
 
 // What jorivelune_sizes tells.
-struct jorivelune_head_sizes {
+struct jorivelune_told_sizes {
     size_t levels, checks, columns, cells, blocks, steps;
 };
 
 // What jorivelune_panel tells.
-struct jorivelune_head_panel {
+struct jorivelune_told_panel {
     size_t total, first, read;
 };
 
@@ -62,10 +62,10 @@ static inline const char *jorivelune_words(uint8_t answer)
 }
 
 // q, r, n, m x n, blocks and the steps of a cycle that skips so many low digits: 1 to 5, then 15.
-static inline uint8_t jorivelune_head_measure(struct jorivelune_shape shape, size_t skip,
-                                              struct jorivelune_head_sizes *sizes)
+static inline uint8_t jorivelune_head_sizes(struct jorivelune_shape shape, size_t skip,
+                                            struct jorivelune_told_sizes *sizes)
 {
-    struct jorivelune_head_sizes unread;
+    struct jorivelune_told_sizes unread;
     if (sizes == NULL)
         sizes = &unread;
     return jorivelune_sizes(shape, skip, &sizes->levels, &sizes->checks, &sizes->columns, &sizes->cells, &sizes->blocks,
@@ -73,7 +73,7 @@ static inline uint8_t jorivelune_head_measure(struct jorivelune_shape shape, siz
 }
 
 // The bytes of memory that a head of this shape and these sizes needs: its cells, four buffers of a byte a row, totals.
-static inline size_t jorivelune_head_sum(struct jorivelune_shape shape, struct jorivelune_head_sizes sizes)
+static inline size_t jorivelune_head_sum(struct jorivelune_shape shape, struct jorivelune_told_sizes sizes)
 {
     return sizes.cells + 4 * shape.rows + sizes.blocks;
 }
@@ -81,8 +81,8 @@ static inline size_t jorivelune_head_sum(struct jorivelune_shape shape, struct j
 // The same of a shape, 0 where it is refused.
 static inline uint8_t jorivelune_head_bytes(struct jorivelune_shape shape, size_t *bytes)
 {
-    struct jorivelune_head_sizes sizes;
-    uint8_t answer = jorivelune_head_measure(shape, 0, &sizes);
+    struct jorivelune_told_sizes sizes;
+    uint8_t answer = jorivelune_head_sizes(shape, 0, &sizes);
     if (bytes != NULL)
         *bytes = answer == JORIVELUNE_TAKEN ? jorivelune_head_sum(shape, sizes) : 0;
     return answer;
@@ -106,8 +106,8 @@ static inline struct jorivelune_part jorivelune_head_cut(uint8_t **memory, size_
 static inline uint8_t jorivelune_head_lend(struct jorivelune_head *head, struct jorivelune_shape shape,
                                            uint8_t *memory, size_t memory_length)
 {
-    struct jorivelune_head_sizes sizes;
-    uint8_t answer = jorivelune_head_measure(shape, 0, &sizes);
+    struct jorivelune_told_sizes sizes;
+    uint8_t answer = jorivelune_head_sizes(shape, 0, &sizes);
     if (answer != JORIVELUNE_TAKEN)
         return answer;
     if (memory == NULL || memory_length < jorivelune_head_sum(shape, sizes))
@@ -196,9 +196,9 @@ static inline uint8_t jorivelune_head_run(struct jorivelune_head *head, size_t s
 
 // ---- calls without the record
 
-static inline uint8_t jorivelune_head_show(const struct jorivelune_head *head, struct jorivelune_head_panel *panel)
+static inline uint8_t jorivelune_head_panel(const struct jorivelune_head *head, struct jorivelune_told_panel *panel)
 {
-    struct jorivelune_head_panel unread;
+    struct jorivelune_told_panel unread;
     if (panel == NULL)
         panel = &unread;
     return jorivelune_panel(head->shape, JORIVELUNE_PART(head->flags), JORIVELUNE_PART(head->totals),

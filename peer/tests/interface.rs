@@ -337,13 +337,20 @@ fn a_call_that_a_head_does_not_make_is_found() {
         "(void)jorivelune_sound",
         "not passed on",
     );
-    let next = "}\nstatic inline uint8_t jorivelune_head_show(const struct jorivelune_head *head, \
+    let next =
+        "}\nstatic inline uint8_t jorivelune_head_panel(const struct jorivelune_head *head, \
                 struct panel *panel)\n{\n";
     finds(
         Text::Head,
         next,
         "",
-        "jorivelune_head_start: makes two calls",
+        "jorivelune_panel: made by jorivelune_head_start",
+    );
+    finds(
+        Text::Head,
+        "uint8_t jorivelune_head_panel(",
+        "uint8_t jorivelune_head_show(",
+        "jorivelune_panel: made by jorivelune_head_show",
     );
 }
 

@@ -99,26 +99,26 @@ static int words(void)
 
 static int sizes(void)
 {
-    struct jorivelune_head_sizes told = {9, 9, 9, 9, 9, 9};
+    struct jorivelune_told_sizes told = {9, 9, 9, 9, 9, 9};
     struct jorivelune_shape high = shape;
     size_t bytes = 9;
 
-    TAKEN(jorivelune_head_measure(shape, 1, &told));
+    TAKEN(jorivelune_head_sizes(shape, 1, &told));
     EXPECT(told.levels == 64 && told.checks == 5 && told.columns == COLUMNS);
     EXPECT(told.cells == CELLS && told.blocks == BLOCKS && told.steps == 1 + 31 * 26);
     EXPECT(jorivelune_head_sum(shape, told) == EXACT);
     TAKEN(jorivelune_head_bytes(shape, &bytes));
     EXPECT(bytes == EXACT && EXACT < ENOUGH);
-    TAKEN(jorivelune_head_measure(shape, 5, NULL));
+    TAKEN(jorivelune_head_sizes(shape, 5, NULL));
     TAKEN(jorivelune_head_bytes(shape, NULL));
 
-    REFUSED(jorivelune_head_measure(shape, 6, &told), SKIP);
+    REFUSED(jorivelune_head_sizes(shape, 6, &told), SKIP);
     EXPECT(told.levels == 0 && told.checks == 0 && told.columns == 0);
     EXPECT(told.cells == 0 && told.blocks == 0 && told.steps == 0);
     high.rows = 4097;
     REFUSED(jorivelune_head_bytes(high, &bytes), ROWS);
     EXPECT(bytes == 0);
-    REFUSED(jorivelune_head_measure(high, 6, NULL), ROWS);
+    REFUSED(jorivelune_head_sizes(high, 6, NULL), ROWS);
     REFUSED(jorivelune_head_bytes(high, NULL), ROWS);
     return 0;
 }
@@ -278,14 +278,14 @@ static int whole_cycle(void)
 
 static int panel(void)
 {
-    struct jorivelune_head_panel told = {1, 1, 1};
+    struct jorivelune_told_panel told = {1, 1, 1};
     size_t total = 1, first = 1, read = 1;
 
-    SAME(jorivelune_head_show(&head, &told),
+    SAME(jorivelune_head_panel(&head, &told),
          jorivelune_panel(shape, WHOLE(flags), WHOLE(totals), &total, &first, &read));
     EXPECT(told.total == 3 && told.first == 72 && told.read == 9);
     EXPECT(total == 3 && first == 72 && read == 9);
-    TAKEN(jorivelune_head_show(&head, NULL));
+    TAKEN(jorivelune_head_panel(&head, NULL));
     return 0;
 }
 
@@ -401,7 +401,7 @@ static int other_questions(void)
 static int empty_head(void)
 {
     struct jorivelune_head empty, zeros;
-    struct jorivelune_head_panel told = {9, 9, 9};
+    struct jorivelune_told_panel told = {9, 9, 9};
     uint8_t bytes[COLUMNS] = {0};
     size_t number = 9;
     bool holds = true;
@@ -415,7 +415,7 @@ static int empty_head(void)
     REFUSED(jorivelune_head_step(&empty), RADIX);
     REFUSED(jorivelune_head_steps(&empty, 1), RADIX);
     REFUSED(jorivelune_head_run(&empty, 0), RADIX);
-    REFUSED(jorivelune_head_show(&empty, &told), RADIX);
+    REFUSED(jorivelune_head_panel(&empty, &told), RADIX);
     EXPECT(told.total == 0 && told.first == 0 && told.read == 0);
     REFUSED(jorivelune_head_line(&empty, 0, 1), RADIX);
     REFUSED(jorivelune_head_drift(&empty, 0, 0, 1), RADIX);

@@ -112,7 +112,7 @@ static inline uint8_t jorivelune_head_start(struct jorivelune_head *head)
 {
     return jorivelune_start(&head->record, head->shape, JORIVELUNE_ROW_PARTS(head));
 }
-static inline uint8_t jorivelune_head_show(const struct jorivelune_head *head, struct panel *panel)
+static inline uint8_t jorivelune_head_panel(const struct jorivelune_head *head, struct panel *panel)
 {
     return jorivelune_panel(head->shape, JORIVELUNE_PART(head->flags),
                             &panel->total, &panel->first);

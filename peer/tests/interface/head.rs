@@ -9,13 +9,12 @@ const ROW_PARTS: &str = "JORIVELUNE_ROW_PARTS";
 /// What stands for a buffer and its length.
 const BUFFERS: [&str; 3] = ["JORIVELUNE_PART(", "JORIVELUNE_GIVEN(", "JORIVELUNE_LENT("];
 
-/// What is wrong with the calls of the functions: each is made once, in an inline
-/// function of its own, and every argument bears the name of its parameter.
+/// What is wrong with the calls of the functions: each is made once, in the inline
+/// function of its name, and every argument bears the name of its parameter.
 pub fn differences(text: &str, functions: &[Function]) -> Read<Vec<String>> {
     let text = without_comments(text).replace("\\\n", " ");
     let shared = row_parts(&text)?;
     let mut found = Vec::new();
-    let mut makers = Vec::new();
     for function in functions {
         let calls: Vec<Place> = places(&text, &function.name)
             .filter(|place| place.word == function.name && place.after.starts_with('('))
@@ -23,28 +22,28 @@ pub fn differences(text: &str, functions: &[Function]) -> Read<Vec<String>> {
         match calls[..] {
             [call] => {
                 found.extend(wrong_call(call, function, &shared)?);
-                makers.push(maker(call)?);
+                found.extend(wrong_maker(call)?);
             }
             _ => found.push(format!("{}: called {} times", function.name, calls.len())),
         }
     }
-    makers.sort();
-    let twice = makers.windows(2).filter(|pair| pair[0] == pair[1]);
-    found.extend(twice.map(|pair| format!("{}: makes two calls", pair[0])));
     Ok(found)
 }
 
-/// The inline function in which a call stands.
-fn maker(call: Place) -> Read<String> {
+/// What is wrong with the inline function in which a call stands: its name is that of
+/// the call, with the head in it.
+fn wrong_maker(call: Place) -> Read<Option<String>> {
     let outside = || format!("{}: called in no inline function", call.word);
     let (_, function) = call
         .before
         .rsplit_once("static inline ")
         .ok_or_else(outside)?;
-    let named = places(function, "jorivelune_head_").find(|place| place.after.starts_with('('));
-    named
-        .map(|place| place.word.to_string())
-        .ok_or_else(outside)
+    let maker = places(function, "jorivelune_head_")
+        .find(|place| place.after.starts_with('('))
+        .ok_or_else(outside)?;
+    let wanted = call.word.replacen("jorivelune_", "jorivelune_head_", 1);
+    let wrong = maker.word != wanted;
+    Ok(wrong.then(|| format!("{}: made by {}", call.word, maker.word)))
 }
 
 /// What the name for several parts stands for.

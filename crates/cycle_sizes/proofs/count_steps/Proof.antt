@@ -1,12 +1,11 @@
 -- `cycle_sizes::count_steps` meets its contract: q / ρ^z is a power of ρ, and W the ones of the columns. Assumes nothing.
 use mathlib.Core.Path.{_≡_, sym, ap, _∙_}
-use mathlib.Core.List.{List, [], _∷_}
-use Prim.Native.Nat.{ℕ, _+_, _-_, _*_, _≤_, _<_}
+use mathlib.Core.List.{[], _∷_}
+use Prim.Native.Nat.{_-_, _*_, _≤_, _<_}
 use native.Mathlib.Nat.{one-mul, one-le-pow}
 use native.Mathlib.Omega.{arith}
 use lib.ListN.{length, take}
 use lib.Seq.{length-take-le}
-use borrow.Author.Needs.{needs}
 use Rattle.parity.specs.Shape.{columns}
 use Rattle.parity.specs.Lists.{sumOver}
 use Rattle.parity.specs.Matrix.{weight, matrix, lookups}

@@ -1,7 +1,6 @@
 -- `cycle_sizes::sizes` meets its contract: `check_sizes` asks, and the sizes are put together. Assumes nothing.
-use mathlib.Core.Path.{_≡_, sym, ap, _∙_}
+use mathlib.Core.Path.{sym, ap, _∙_}
 use mathlib.Core.List.{List}
-use Prim.Native.Nat.{ℕ}
 use borrow.Author.Needs.{needs}
 use Rattle.parity.specs.Questions.{Question}
 use Rattle.shape.specs.Shapes.{Passed}

@@ -1,6 +1,6 @@
 -- `jorivelune::sizes::jorivelune_sizes` meets its contract: the answer is taken apart, its number to the caller and its six numbers to
 -- the pointers. Assumes nothing.
-use mathlib.Core.Path.{_≡_, ap, _∙_}
+use mathlib.Core.Path.{ap, _∙_}
 use Prim.Native.Nat.{ℕ}
 use borrow.Author.Needs.{needs}
 use Rattle.parity.specs.Questions.{firstNo}
