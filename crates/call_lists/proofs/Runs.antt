@@ -8,8 +8,8 @@ use Rattle.parity.specs.Lists.{followed}
 use Rattle.parity.specs.declared.Shape.{Shape}
 use Rattle.parity.proofs.Followed.{followed-keeps, followed-holds, followed-append}
 use Rattle.cycle.specs.Calls.{State, fresh, stepCall}
-use Rattle.cycle_run.specs.Cycles.{afterSteps}
-use Rattle.cycle_run.proofs.StepsLeft.{stepsClaim}
+use Rattle.cycle_steps.specs.Steps.{afterSteps}
+use Rattle.cycle_steps.proofs.StepsLeft.{stepsClaim}
 use Rattle.call_lists.specs.Run.{Call, step, after, runFrom, run}
 use Rattle.call_lists.specs.Claims.{Follows, FollowClaim, StepsListClaim}
 

@@ -6,7 +6,7 @@ use lib.ListN.{replicate}
 use Rattle.parity.specs.declared.Shape.{Shape}
 use Rattle.shape.specs.Answers.{Result}
 use Rattle.cycle.specs.Calls.{State, fresh}
-use Rattle.cycle_run.specs.Steps.{stepsCall}
+use Rattle.cycle_steps.specs.Steps.{stepsCall}
 use Rattle.call_lists.specs.Run.{Call, step, callOf, run}
 
 -- the state that a call leaves, by the equation of its own contract: all that its definition gives is some result, and that result has the state

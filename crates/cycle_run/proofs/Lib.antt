@@ -1,4 +1,2 @@
--- The laws that the functions' proofs and the crates above cite.
-pub mod Stepping
-pub mod HeldColumn
-pub mod StepsLeft
+-- The law that the function's proof cites.
+pub mod WholeCycle

@@ -2,7 +2,6 @@
 use mathlib.Core.List.{List}
 use Prim.Native.Nat.{ℕ}
 use lib.ListN.{length, replicate}
-use Rattle.parity.specs.Lists.{followed}
 use Rattle.parity.specs.Matrix.{lookups, cycleSteps}
 use Rattle.parity.specs.Questions.{Question}
 use Rattle.parity.specs.declared.Shape.{Shape}
@@ -12,11 +11,8 @@ use Rattle.array_memory.specs.Memory.{Memory}
 use Rattle.array_questions.specs.Questions.{startArguments, lentQuestions}
 use Rattle.cycle_place.specs.Places.{entryAt}
 use Rattle.cycle_lookup.specs.Lookup.{entryMatches}
-use Rattle.cycle.specs.Calls.{State, startCall, stepCall}
-
--- the state after a step with each of the buffers for match bytes, one after the other
-abbrev pub afterSteps : Shape → State → List (List ℕ) → State
-afterSteps s st buffers = followed (λ st matches. stepCall s st matches .state) st buffers
+use Rattle.cycle.specs.Calls.{State, startCall}
+use Rattle.cycle_steps.specs.Steps.{afterSteps}
 
 -- 15 on the number of digits to skip, 6 on the memory and the match bytes; not 9, since the call starts a cycle
 abbrev pub cycleQuestions : Shape → Memory → ℕ → List ℕ → List Question

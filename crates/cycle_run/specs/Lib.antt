@@ -1,5 +1,2 @@
--- Many steps, and a whole cycle, as one call.
-pub mod Steps
+-- A whole cycle as one call.
 pub mod Cycles
-pub mod Claims
-pub mod Tests

@@ -1,15 +1,13 @@
-// Many steps, and one whole detection cycle, as one call.
-pub mod steps;
-
+// One whole detection cycle as one call.
 use array_questions::memory::check_lent;
 use cycle::Changed;
 use cycle::Cycle;
 use cycle::calls::refused;
 use cycle::calls::start_lent;
+use cycle_steps::steps_lent;
 use parity::Shape;
 use shape::sizes::Checked;
 use shape::sizes::check_shape;
-use steps::steps_lent;
 ghost use mathlib.Core.Path.{_≡_};
 ghost use Rattle.shape.specs.Lent.{was, left};
 ghost use Rattle.array_memory.specs.Buffers.{wasAll, leftAll};

@@ -15,7 +15,7 @@ use Rattle.cycle_place.specs.Places.{entryAt, nextAt, isPlaceOf}
 use Rattle.cycle_lookup.specs.Lookup.{entryMatches, countedRows, flaggedRows, totalledBlocks, resetRows, lookedUp}
 use Rattle.cycle.specs.Record.{cycleAt, isNext}
 use Rattle.cycle.specs.Calls.{zeroRows, cleared, fresh, programCall, commitCall, started, startCall, stepMatches, steppedMemory, stepped, stepCall}
-use Rattle.cycle_run.specs.Steps.{stepsCall}
+use Rattle.cycle_steps.specs.Steps.{stepsCall}
 use Rattle.call_lists.specs.Run.{run}
 use Rattle.detection.specs.Log.{blank, log}
 use Rattle.detection.specs.Examples.{ExamplesClaim, examples, DriftExamplesClaim, drifting, LineExamplesClaim, lineExamples}

@@ -11,7 +11,7 @@ use Rattle.parity.specs.declared.Shape.{Shape}
 use Rattle.array.specs.Calls.{lineCall}
 use Rattle.shape.specs.Answers.{Result}
 use Rattle.cycle.specs.Calls.{State, stepCall}
-use Rattle.cycle_run.specs.Steps.{stepsCall}
+use Rattle.cycle_steps.specs.Steps.{stepsCall}
 use Rattle.call_lists.specs.Run.{Call, start, program, ask, commit, drift, line, lookup, step, callOf, run}
 use Rattle.detection.specs.Log.{LogCycle, LogMarks, none, ended, log}
 use Rattle.detection.specs.Commits.{asks, commits}

@@ -22,7 +22,8 @@ use Rattle.cycle.specs.Methods.{changing}
 use Rattle.cycle.specs.declared.Changed.{Changed}
 use Rattle.cycle.proofs.Asked.{clear-asked, lent-asked}
 use Rattle.cycle.proofs.Steps.{fresh-sized}
-use Rattle.cycle_run.specs.Cycles.{afterSteps, cycleQuestions, lastMatches, cycleCall}
+use Rattle.cycle_steps.specs.Steps.{afterSteps}
+use Rattle.cycle_run.specs.Cycles.{cycleQuestions, lastMatches, cycleCall}
 use Rattle.job_parse.specs.Parse.{jobShape, driftCount}
 use Rattle.job.specs.Job.{afterPrograms, afterDrifts, jobRun}
 

@@ -9,7 +9,8 @@ use Rattle.parity.specs.declared.Shape.{Shape}
 use Rattle.array_memory.specs.Lengths.{Sized}
 use Rattle.array.specs.Calls.{driftCall}
 use Rattle.cycle.specs.Calls.{State, onMemory, fresh, clearCall, programCall, stepCall}
-use Rattle.cycle_run.specs.Cycles.{afterSteps, cycleCall}
+use Rattle.cycle_steps.specs.Steps.{afterSteps}
+use Rattle.cycle_run.specs.Cycles.{cycleCall}
 use Rattle.call_lists.specs.Run.{Call, clear, program, drift, step, runFrom, run}
 use Rattle.call_lists.proofs.Runs.{run-append}
 use Rattle.detection.proofs.Agreement.{sized}

@@ -1,6 +1,6 @@
 // The calls that have the record. A refused call leaves the words and every buffer as they were.
 use cycle_run::run_cycle;
-use cycle_run::steps::steps;
+use cycle_steps::steps;
 use parity::Shape;
 use record_words::cycle_of;
 use record_words::store;
@@ -12,7 +12,7 @@ ghost use Rattle.array_memory.specs.Buffers.{wasCells, leftCells, wasRows, left
 ghost use Rattle.array_memory.specs.Memory.{Memory};
 ghost use Rattle.cycle.specs.Calls.{clearCall, programCall, commitCall, startCall, stepCall};
 ghost use Rattle.cycle_run.specs.Cycles.{cycleCall};
-ghost use Rattle.cycle_run.specs.Steps.{stepsCall};
+ghost use Rattle.cycle_steps.specs.Steps.{stepsCall};
 ghost use Rattle.record_words.specs.Words.{storedOf, onWords};
 ghost use Rattle.jorivelune.specs.Numbers.{telling};
 

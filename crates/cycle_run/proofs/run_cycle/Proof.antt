@@ -31,9 +31,10 @@ use Rattle.cycle.proofs.Asked.{start-asked, lent-asked, step-asked}
 use Rattle.cycle.proofs.CycleRecord.{next-open}
 use Rattle.cycle.proofs.Steps.{started-sized, start-done}
 use Rattle.cycle.proofs.Given.{gives-refusal}
-use Rattle.cycle_run.specs.Cycles.{afterSteps, cycleQuestions, lastMatches, cycleCall}
-use Rattle.cycle_run.specs.Steps.{stepsCall}
-use Rattle.cycle_run.proofs.Stepping.{At, stepping-all}
+use Rattle.cycle_steps.specs.Steps.{afterSteps, stepsCall}
+use Rattle.cycle_steps.proofs.Stepping.{At}
+use Rattle.cycle_run.specs.Cycles.{cycleQuestions, lastMatches, cycleCall}
+use Rattle.cycle_run.proofs.WholeCycle.{stepping-all}
 use Rattle.cycle_run.proofs.run_cycle.Statement.{statement}
 use Rattle.cycle_run.proofs.run_cycle.Tie as tie
 

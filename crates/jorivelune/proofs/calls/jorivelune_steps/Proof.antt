@@ -10,7 +10,7 @@ use Rattle.shape.specs.Answers.{Result, accepted, giving}
 use Rattle.array_memory.specs.Memory.{withAll}
 use Rattle.cycle.specs.Calls.{State, stepQuestions, stepCall}
 use Rattle.cycle.specs.Record.{isOpen}
-use Rattle.cycle_run.specs.Steps.{stepping, stepsCall}
+use Rattle.cycle_steps.specs.Steps.{stepping, stepsCall}
 use Rattle.jorivelune.proofs.Numbers.{Told, done-told, calling-told, stores}
 use Rattle.jorivelune.proofs.calls.jorivelune_steps.Statement.{statement}
 use Rattle.jorivelune.proofs.calls.jorivelune_steps.Tie as tie

@@ -2,10 +2,15 @@
 use mathlib.Core.Bool.{cond}
 use mathlib.Core.List.{List}
 use Prim.Native.Nat.{ℕ, zero, suc}
+use Rattle.parity.specs.Lists.{followed}
 use Rattle.parity.specs.declared.Shape.{Shape}
 use Rattle.shape.specs.Answers.{Result, accepted, giving, calling}
 use Rattle.cycle.specs.Record.{isOpen}
 use Rattle.cycle.specs.Calls.{State, stepQuestions, stepCall}
+
+-- the state after a step with each of the buffers for match bytes, one after the other
+abbrev pub afterSteps : Shape → State → List (List ℕ) → State
+afterSteps s st buffers = followed (λ st matches. stepCall s st matches .state) st buffers
 
 -- at most n steps, one after the other, while the record is open: each goes on from what the one before gives
 abbrev pub stepping : Shape → ℕ → Result State → Result State

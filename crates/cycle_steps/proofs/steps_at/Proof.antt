@@ -1,4 +1,4 @@
--- `cycle_run::steps::steps_at` meets its contract: `locate` asks 9, the opening is made where it is next, and `make_tests` makes the other steps.
+-- `cycle_steps::steps_at` meets its contract: `locate` asks 9, the opening is made where it is next, and `make_tests` makes the other steps.
 -- Assumes nothing.
 use mathlib.Core.Path.{_≡_, refl, sym, ap, ap₂, subst, _∙_}
 use mathlib.Core.Bool.{true, false}
@@ -32,11 +32,11 @@ use Rattle.cycle.specs.declared.Cycle.{Cycle}
 use Rattle.cycle.proofs.CycleRecord.{record-count, record-skip, next-record}
 use Rattle.cycle.proofs.Given.{gives-refusal}
 use Rattle.cycle.proofs.Located.{told-opening, told-test, told-none, entry-opening, movable, lent-taken, lent-sized, lent-matches}
-use Rattle.cycle_run.specs.Steps.{stepping, stepsCall}
-use Rattle.cycle_run.specs.Tests.{TestsLeft}
-use Rattle.cycle_run.proofs.Stepping.{At, stepped-at, stepping-none, stepping-next}
-use Rattle.cycle_run.proofs.steps.steps_at.Statement.{statement}
-use Rattle.cycle_run.proofs.steps.steps_at.Tie as tie
+use Rattle.cycle_steps.specs.Steps.{stepping, stepsCall}
+use Rattle.cycle_steps.specs.Tests.{TestsLeft}
+use Rattle.cycle_steps.proofs.Stepping.{At, stepped-at, stepping-none, stepping-next}
+use Rattle.cycle_steps.proofs.steps_at.Statement.{statement}
+use Rattle.cycle_steps.proofs.steps_at.Tie as tie
 
 -- the memory that is lent, whatever else is in it
 abbrev lent : tie.Start → Memory → Memory

@@ -1,4 +1,4 @@
--- `cycle_run::steps::make_tests` meets its contract: nothing is done where no test is to be made; else the counters are reduced, the first test's column
+-- `cycle_steps::make_tests` meets its contract: nothing is done where no test is to be made; else the counters are reduced, the first test's column
 -- is taken, `count_tests` makes the tests, and the cells that it leaves become the last one's match bytes. Assumes nothing.
 use mathlib.Core.Path.{_≡_, sym, ap, ap₂, _∙_}
 use Prim.Native.Nat.{_*_, _^_, _<_}
@@ -20,12 +20,12 @@ use Rattle.cycle_place.specs.declared.Place.{Place}
 use Rattle.cycle_lookup.specs.Lookup.{entryMatches}
 use Rattle.cycle_lookup.proofs.Passes.{test-proper, test-matches, reduced-below}
 use Rattle.cycle.specs.Calls.{stateOf}
-use Rattle.cycle_run.specs.Steps.{stepping}
-use Rattle.cycle_run.specs.Tests.{testedAt}
-use Rattle.cycle_run.proofs.Stepping.{stepping-none}
-use Rattle.cycle_run.proofs.HeldColumn.{test-place, steps-reduced}
-use Rattle.cycle_run.proofs.steps.make_tests.Statement.{statement}
-use Rattle.cycle_run.proofs.steps.make_tests.Tie as tie
+use Rattle.cycle_steps.specs.Steps.{stepping}
+use Rattle.cycle_steps.specs.Tests.{testedAt}
+use Rattle.cycle_steps.proofs.Stepping.{stepping-none}
+use Rattle.cycle_steps.proofs.HeldColumn.{test-place, steps-reduced}
+use Rattle.cycle_steps.proofs.make_tests.Statement.{statement}
+use Rattle.cycle_steps.proofs.make_tests.Tie as tie
 
 -- the places of the calls, each from one that follows
 abbrev known : tie.After-slice-known4 → tie.After-shared-slice-known3

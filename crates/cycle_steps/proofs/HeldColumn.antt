@@ -28,9 +28,9 @@ use Rattle.cycle.specs.Calls.{stateOf, stepMatches, steppedMemory, stepped}
 use Rattle.cycle.specs.declared.Cycle.{Cycle}
 use Rattle.cycle.proofs.CycleRecord.{record-count, record-skip, next-open, next-place}
 use Rattle.cycle.proofs.Steps.{stepped-sized}
-use Rattle.cycle_run.specs.Steps.{stepping}
-use Rattle.cycle_run.specs.Tests.{TestsLeft, testedAt}
-use Rattle.cycle_run.proofs.Stepping.{open-below, stepping-next}
+use Rattle.cycle_steps.specs.Steps.{stepping}
+use Rattle.cycle_steps.specs.Tests.{TestsLeft, testedAt}
+use Rattle.cycle_steps.proofs.Stepping.{open-below, stepping-next}
 
 -- ---- a record whose next lookup is a test
 

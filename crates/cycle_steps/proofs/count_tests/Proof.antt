@@ -1,4 +1,4 @@
--- `cycle_run::steps::count_tests` meets its contract: each turn makes the next test (HeldColumn.antt), and the steps to come lead where all of them
+-- `cycle_steps::count_tests` meets its contract: each turn makes the next test (HeldColumn.antt), and the steps to come lead where all of them
 -- lead. The measure is the number of tests that may still be made. Assumes nothing.
 use mathlib.Core.Path.{_≡_, refl, sym, ap, ap₂, _∙_}
 use mathlib.Core.Bool.{true}
@@ -23,12 +23,12 @@ use Rattle.cycle_place.proofs.Places.{AtPlace}
 use Rattle.cycle_lookup.specs.Lookup.{entryMatches}
 use Rattle.cycle.specs.Record.{isOpen}
 use Rattle.cycle.proofs.CycleRecord.{open-phase}
-use Rattle.cycle_run.specs.Steps.{stepping}
-use Rattle.cycle_run.specs.Tests.{testedAt}
-use Rattle.cycle_run.proofs.Stepping.{stepping-none, stepping-closed}
-use Rattle.cycle_run.proofs.HeldColumn.{test-place, Held, before-end, at-test, one-more, one-step}
-use Rattle.cycle_run.proofs.steps.count_tests.Statement.{statement}
-use Rattle.cycle_run.proofs.steps.count_tests.Tie as tie
+use Rattle.cycle_steps.specs.Steps.{stepping}
+use Rattle.cycle_steps.specs.Tests.{testedAt}
+use Rattle.cycle_steps.proofs.Stepping.{stepping-none, stepping-closed}
+use Rattle.cycle_steps.proofs.HeldColumn.{test-place, Held, before-end, at-test, one-more, one-step}
+use Rattle.cycle_steps.proofs.count_tests.Statement.{statement}
+use Rattle.cycle_steps.proofs.count_tests.Tie as tie
 
 abbrev Inv-loop : tie.InvT-loop
 Inv-loop most s r cs cells lines counters₀ flags₀ totals₀ matches₀ n z now₀ last₀ digit₀ left₀ counters flags totals matches now last digit left =

@@ -38,8 +38,8 @@ ghost use Rattle.cycle_passes.specs.Passes.{columnCells};
 ghost use Rattle.cycle_place.specs.Walk.{Stands, MatrixLent, PaddedLent};
 ghost use Rattle.cycle.specs.Calls.{stateOf};
 ghost use Rattle.cycle.specs.Methods.{changing, doneWith};
-ghost use Rattle.cycle_run.specs.Steps.{stepping, stepsCall};
-ghost use Rattle.cycle_run.specs.Tests.{TestsLeft, testedAt, ColumnHeld};
+ghost use Rattle.cycle_steps.specs.Steps.{stepping, stepsCall};
+ghost use Rattle.cycle_steps.specs.Tests.{TestsLeft, testedAt, ColumnHeld};
 
 // The record after some tests, and the place of the last of them.
 pub(crate) struct Tested {

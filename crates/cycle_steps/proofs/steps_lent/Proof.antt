@@ -1,4 +1,4 @@
--- `cycle_run::steps::steps_lent` meets its contract: the check matrix is made in an array of zeros, and `steps_at` is lent it with
+-- `cycle_steps::steps_lent` meets its contract: the check matrix is made in an array of zeros, and `steps_at` is lent it with
 -- some of the zeros. Assumes nothing.
 use mathlib.Core.Path.{_≡_, sym, ap, _∙_}
 use Prim.Native.Nat.{_-_}
@@ -9,8 +9,8 @@ use Rattle.parity.specs.Questions.{Taken}
 use Rattle.acam.proofs.MatrixArray.{part-few, part-fits, part-sized, part-within, part-length, part-padded}
 use Rattle.array_memory.specs.Memory.{Memory, withAll, noMemory}
 use Rattle.cycle.proofs.Located.{lent-taken}
-use Rattle.cycle_run.proofs.steps.steps_lent.Statement.{statement}
-use Rattle.cycle_run.proofs.steps.steps_lent.Tie as tie
+use Rattle.cycle_steps.proofs.steps_lent.Statement.{statement}
+use Rattle.cycle_steps.proofs.steps_lent.Tie as tie
 
 -- the places of the start and of the matrix, each from one that follows
 abbrev known : tie.After-slice-known4 → tie.After-shared-slice-known2

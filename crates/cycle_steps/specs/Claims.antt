@@ -8,8 +8,7 @@ use Rattle.parity.specs.Matrix.{cycleSteps}
 use Rattle.parity.specs.declared.Shape.{Shape}
 use Rattle.cycle.specs.Record.{cycleAt}
 use Rattle.cycle.specs.Calls.{State}
-use Rattle.cycle_run.specs.Cycles.{afterSteps}
-use Rattle.cycle_run.specs.Steps.{stepsCall}
+use Rattle.cycle_steps.specs.Steps.{afterSteps, stepsCall}
 
 -- Many steps by one call leave what that many single ones leave, whatever state they find, taken or refused; a single step past the cycle's end is
 -- refused and leaves all as it was.

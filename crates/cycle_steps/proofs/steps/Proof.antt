@@ -1,4 +1,4 @@
--- `cycle_run::steps::steps` meets its contract: `check_shape` and `check_lent` ask up to 6, and `steps_lent` does the rest. Assumes nothing.
+-- `cycle_steps::steps` meets its contract: `check_shape` and `check_lent` ask up to 6, and `steps_lent` does the rest. Assumes nothing.
 use mathlib.Core.Path.{_≡_, refl}
 use mathlib.Core.List.{List, [], _∷_}
 use lib.ListN.{length}
@@ -13,9 +13,9 @@ use Rattle.array_memory.specs.Memory.{Memory, withAll, noMemory}
 use Rattle.array_questions.specs.Questions.{lentQuestions}
 use Rattle.cycle.specs.Record.{cycleQuestion}
 use Rattle.cycle.proofs.Given.{gives-refusal}
-use Rattle.cycle_run.specs.Steps.{stepsCall}
-use Rattle.cycle_run.proofs.steps.steps.Statement.{statement}
-use Rattle.cycle_run.proofs.steps.steps.Tie as tie
+use Rattle.cycle_steps.specs.Steps.{stepsCall}
+use Rattle.cycle_steps.proofs.steps.Statement.{statement}
+use Rattle.cycle_steps.proofs.steps.Tie as tie
 
 -- the memory that is lent, whatever else is in it
 abbrev lent : tie.Start → Memory → Memory

@@ -22,10 +22,9 @@ use Rattle.cycle.specs.Calls.{State, stepMatches, stepped, stepQuestions, stepC
 use Rattle.cycle.proofs.CycleRecord.{next-record, next-complete}
 use Rattle.cycle.proofs.Located.{lent-taken, lent-sized, lent-matches}
 use Rattle.cycle.proofs.Steps.{step-state}
-use Rattle.cycle_run.specs.Claims.{StepsClaim, CountClaim}
-use Rattle.cycle_run.specs.Cycles.{afterSteps}
-use Rattle.cycle_run.specs.Steps.{stepping, stepsCall}
-use Rattle.cycle_run.proofs.Stepping.{At, phase, step-made, stepped-at, matches-sized, stepping-next, stepping-closed}
+use Rattle.cycle_steps.specs.Claims.{StepsClaim, CountClaim}
+use Rattle.cycle_steps.specs.Steps.{afterSteps, stepping, stepsCall}
+use Rattle.cycle_steps.proofs.Stepping.{At, phase, step-made, stepped-at, matches-sized, stepping-next, stepping-closed}
 
 module _ (z : ℕ) (s : Shape) (t : Taken s) (some : z < s .digits) where
   -- a single step on a complete record leaves the state

@@ -1,13 +1,12 @@
--- Steps one after the other from a state of a cycle: what the first of them makes, and what all of them leave. Assumes nothing.
-use mathlib.Core.Path.{_≡_, refl, sym, ap, ap₂, _∙_}
+-- Steps one after the other from a state of a cycle: what the first of them makes, and where none is to be made. Assumes nothing.
+use mathlib.Core.Path.{_≡_, refl, ap, _∙_}
 use mathlib.Core.Bool.{Bool, true, false, cond}
 use mathlib.Core.List.{List, [], _∷_}
-use Prim.Native.Nat.{ℕ, zero, suc, _+_, _-_, _≤_, _<_}
-use native.Mathlib.Omega.{arith}
+use Prim.Native.Nat.{ℕ, zero, suc, _<_}
 use lib.Dec.{ltb}
-use lib.ListN.{length, replicate}
-use borrow.Author.Tests.{lt-ltb, le-ltb}
-use Rattle.parity.specs.Matrix.{lookups, cycleSteps}
+use lib.ListN.{length}
+use borrow.Author.Tests.{lt-ltb}
+use Rattle.parity.specs.Matrix.{cycleSteps}
 use Rattle.parity.specs.Questions.{firstNo, Taken}
 use Rattle.parity.specs.declared.Shape.{Shape}
 use Rattle.parity.proofs.Alongside.{equal-alongside}
@@ -19,14 +18,13 @@ use Rattle.array_memory.specs.Geometry.{matchBytes}
 use Rattle.array_memory.specs.Lengths.{Sized}
 use Rattle.cycle_place.specs.Places.{placeOf, entryAt, nextAt}
 use Rattle.cycle_place.specs.declared.walk.Next.the-variants as nexts
-use Rattle.cycle_lookup.specs.Lookup.{entryMatches, lookedUp}
+use Rattle.cycle_lookup.specs.Lookup.{entryMatches}
 use Rattle.cycle.specs.Record.{recordAt, cycleAt, isOpen, isNext}
-use Rattle.cycle.specs.Calls.{State, stepMatches, steppedMemory, stepped, stepQuestions, stepCall}
+use Rattle.cycle.specs.Calls.{State, stepMatches, stepped, stepQuestions, stepCall}
 use Rattle.cycle.proofs.Asked.{step-asked}
 use Rattle.cycle.proofs.CycleRecord.{record-count, record-skip, next-open}
 use Rattle.cycle.proofs.Steps.{stepped-cycle, stepped-sized}
-use Rattle.cycle_run.specs.Cycles.{afterSteps, lastMatches}
-use Rattle.cycle_run.specs.Steps.{stepping}
+use Rattle.cycle_steps.specs.Steps.{stepping}
 
 -- a record of a count is open while a lookup is to come
 pub open-below : (z : ℕ) (s : Shape) → Taken s → (c : ℕ) → isOpen (cycleAt z s c .phase) ≡ ltb c (cycleSteps z s)
@@ -56,10 +54,10 @@ module _ (z : ℕ) (s : Shape) (t : Taken s) (some : z < s .digits) where
     pub phase : isOpen (st .cycle .phase) ≡ ltb c (cycleSteps z s)
     phase = ap (λ r. isOpen (r .phase)) (at .cycle) ∙ open-below z s t c
 
-    own-count : st .cycle .count ≡ c
+    pub own-count : st .cycle .count ≡ c
     own-count = ap (λ r. r .count) (at .cycle) ∙ record-count z s c
 
-    own-skip : st .cycle .skip ≡ z
+    pub own-skip : st .cycle .skip ≡ z
     own-skip = ap (λ r. r .skip) (at .cycle) ∙ record-skip z s c
 
     -- a step while a lookup is to come, whatever its buffer holds
@@ -85,22 +83,3 @@ module _ (z : ℕ) (s : Shape) (t : Taken s) (some : z < s .digits) where
     pub matches-sized : length (stepMatches s st) ≡ s .rows
     unfolding stepMatches entryMatches matchBytes
     matches-sized = length-tabulate (s .rows) _
-
-  -- enough steps lead to the cycle's end; the bytes there are those of its last lookup
-  pub stepping-all :
-      (given : List ℕ) → length given ≡ s .rows → (k n c : ℕ) (st : State) → At z s c st → c + k ≡ cycleSteps z s → k ≤ n
-      → (buffer : List ℕ) → length buffer ≡ s .rows → (0 < c → buffer ≡ entryMatches s (entryAt z s (c - 1)) (st .memory))
-      → stepping s n (giving (accepted 0) buffer st) ≡ giving (accepted 0) (lastMatches z s (st .memory)) (afterSteps s st (replicate k given))
-  unfolding lastMatches stepMatches stepped steppedMemory lookedUp entryMatches
-  stepping-all given l zero n c st at e h buffer sized made =
-      let last : c - 1 ≡ lookups z s = omega arith in
-      stepping-closed s n (giving (accepted 0) buffer st) (phase c st at ∙ le-ltb c (cycleSteps z s) (omega arith))
-      ∙ ap (λ bytes. giving (accepted 0) bytes st) (made (omega arith) ∙ ap (λ c. entryMatches s (entryAt z s c) (st .memory)) last)
-  stepping-all given l (suc k) zero c st at e h buffer sized made = absurd (omega arith)
-  stepping-all given l (suc k) (suc n) c st at e h buffer sized made =
-      let more : c < cycleSteps z s = omega arith in
-      let now : st .cycle .count ≡ suc c - 1 = own-count c st at ∙ omega arith in
-      stepping-next c st at more n (accepted 0) buffer sized
-      ∙ stepping-all given l k n (suc c) (stepped s st) (stepped-at c st at) (omega arith) (omega arith) (stepMatches s st) (matches-sized c st at)
-      (λ _. ap₂ (λ z n. entryMatches s (entryAt z s n) (st .memory)) (own-skip c st at) now)
-      ∙ ap (λ r. giving (accepted 0) (lastMatches z s (st .memory)) (afterSteps s (r .state) (replicate k given))) (sym (step-made c st at more given l))

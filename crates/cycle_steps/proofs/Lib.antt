@@ -1,0 +1,4 @@
+-- The laws that the functions' proofs and the crates above cite.
+pub mod Stepping
+pub mod HeldColumn
+pub mod StepsLeft
