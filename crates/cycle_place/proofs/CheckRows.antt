@@ -9,13 +9,13 @@ use lib.Bits.{bitAnd, and-high}
 use lib.Dec.{eqb}
 use lib.ListN.{length, getD, take, drop, take-append-drop}
 use lib.Pow.{pow-pos, pow-add}
-use lib.Seq.{take-suc, take-all}
+use lib.Seq.{take-all}
 use borrow.Author.Tests.{eqb-true, eqb-false, eq-eqb, ne-eqb}
 use Rattle.parity.specs.Lists.{sumOver, sumTo}
 use Rattle.parity.specs.Shape.{digit}
 use Rattle.parity.specs.Matrix.{bit, placesFrom}
 use Rattle.parity.proofs.Sums.{bit-below, bit-zero}
-use Rattle.parity.proofs.ListLaws.{sum-append}
+use Rattle.parity.proofs.ListLaws.{sum-append, sum-take-suc}
 use Rattle.parity.proofs.MatrixOnes.{places-length}
 use Rattle.shape.proofs.Search.{search-found, search-missed, search-ended}
 pub use Rattle.cycle_place.specs.Survey.{heldFrom}
@@ -67,12 +67,7 @@ masked-none ℓ c mask e none = go (bit ℓ c) (sym (masked ℓ c mask e) ∙ no
 
 pub before-next : (cs : List ℕ) (ℓ j : ℕ) → j < length cs → onesBefore cs ℓ (suc j) ≡ onesBefore cs ℓ j + bit ℓ (getD cs j 0)
 before-next cs ℓ j h =
-    omega (
-      arith,
-      places-length 0 ℓ (take (suc j) cs) ∙ ap (λ ds. sumOver ds (bit ℓ)) (take-suc cs j 0 h),
-      sum-append (bit ℓ) (take j cs) (getD cs j 0 ∷ []),
-      places-length 0 ℓ (take j cs),
-    )
+    omega (arith, places-length 0 ℓ (take (suc j) cs), sum-take-suc (bit ℓ) cs j 0 h, places-length 0 ℓ (take j cs))
 
 pub before-all : (cs : List ℕ) (ℓ j : ℕ) → length cs ≤ j → onesBefore cs ℓ j ≡ length (placesFrom 0 ℓ cs)
 before-all cs ℓ j h = ap (λ ds. length (placesFrom 0 ℓ ds)) (take-all j cs h)

@@ -32,6 +32,8 @@ module _ (z : ℕ) (s : Shape) (t : Taken s) (some : z < s .digits) where
       let more : c < cycleSteps z s = omega arith in
       let now : st .cycle .count ≡ suc c - 1 = own-count z s t some c st at ∙ omega arith in
       stepping-next z s t some c st at more n (accepted 0) buffer sized
-      ∙ stepping-all given l k n (suc c) (stepped s st) (stepped-at z s t some c st at) (omega arith) (omega arith) (stepMatches s st) (matches-sized z s t some c st at)
+      ∙ stepping-all given l k n (suc c) (stepped s st) (stepped-at z s t some c st at) (omega arith) (omega arith) (stepMatches s st)
+      (matches-sized z s t some c st at)
       (λ _. ap₂ (λ z n. entryMatches s (entryAt z s n) (st .memory)) (own-skip z s t some c st at) now)
-      ∙ ap (λ r. giving (accepted 0) (lastMatches z s (st .memory)) (afterSteps s (r .state) (replicate k given))) (sym (step-made z s t some c st at more given l))
+      ∙ ap (λ r. giving (accepted 0) (lastMatches z s (st .memory)) (afterSteps s (r .state) (replicate k given)))
+      (sym (step-made z s t some c st at more given l))

@@ -10,7 +10,7 @@ use lib.ListN.{length, getD, take}
 use lib.Seq.{take-suc}
 use borrow.Author.Tests.{ne-eqb}
 use Rattle.parity.specs.Lists.{sumOver}
-use Rattle.parity.proofs.ListLaws.{sum-append}
+use Rattle.parity.proofs.ListLaws.{sum-take-suc}
 use Rattle.shape.proofs.Search.{search-shift}
 use Rattle.array_memory.specs.Blocks.{isFlagged}
 use Rattle.array_memory.proofs.FlagCounts.{flag-zero}
@@ -80,7 +80,7 @@ module _ (xs : List ℕ) (i : ℕ) (h : i < length xs) where
   one-more = ap (λ n. take n xs) (add-one i) ∙ take-suc xs i 0 h
 
   pub sum-next : sum (take (i + 1) xs) ≡ sum (take i xs) + getD xs i 0
-  sum-next = ap sum one-more ∙ omega (arith, sum-append (λ x. x) (take i xs) (getD xs i 0 ∷ []))
+  sum-next = ap (λ n. sum (take n xs)) (add-one i) ∙ sum-take-suc (λ x. x) xs i 0 h
 
   pub first-further : sum (take (i + 1) xs) ≡ 0 → firstNonzero (take (i + 1) xs) ≡ firstNonzero (take i xs) + 1
   first-further e = ap firstNonzero one-more ∙ zero-snoc (take i xs) (getD xs i 0) (sym (ap sum one-more) ∙ e) ∙ sym (add-one _)

@@ -10,7 +10,7 @@ use native.Mathlib.Numerals.{add-one}
 use native.Mathlib.Omega.{arith}
 use lib.Dec.{eqb, ltb}
 use lib.ListN.{length, getD, take, replicate, length-append, length-take, replicate-append-replicate, List·getD-append}
-use lib.Seq.{getD-take, getD-append-add, getD-at}
+use lib.Seq.{take-suc, getD-take, getD-append-add, getD-at}
 use borrow.Author.Tests.{eqb-true, ltb-true, ltb-false}
 use Rattle.parity.specs.Lists.{tabulate, joined, keep, every, everyTo, sumOver, differences}
 use Rattle.parity.specs.Claims.{Among}
@@ -63,6 +63,10 @@ module _ {ℓ} {A : Type ℓ} where
   pub sum-append : (g : A → ℕ) (xs ys : List A) → sumOver (xs ++ ys) g ≡ sumOver xs g + sumOver ys g
   sum-append g [] ys = sym (zero-add (sumOver ys g))
   sum-append g (x ∷ xs) ys = omega (arith, sum-append g xs ys)
+
+  -- one element more
+  pub sum-take-suc : (g : A → ℕ) (xs : List A) (j : ℕ) (d : A) → j < length xs → sumOver (take (suc j) xs) g ≡ sumOver (take j xs) g + g (getD xs j d)
+  sum-take-suc g xs j d h = ap (λ ys. sumOver ys g) (take-suc xs j d h) ∙ omega (arith, sum-append g (take j xs) (getD xs j d ∷ []))
 
   -- ---- a test of every element, and its passing at each place
 

@@ -2,7 +2,7 @@
 
 use super::function::{Function, Kind, Parameter, Width};
 use super::header::BEGINNING;
-use super::text::{bracketed, parts, places, without_comments, word, Read};
+use super::text::{bracketed, places, without_comments, word, Read};
 
 /// The functions that are declared.
 pub fn functions(text: &str) -> Read<Vec<Function>> {
@@ -13,14 +13,8 @@ pub fn functions(text: &str) -> Read<Vec<Function>> {
             let (inside, rest) = bracketed(place.after, ['(', ')'])?;
             let rest = rest.trim_start().strip_prefix("->");
             let gives = rest.ok_or(format!("{}: gives nothing", place.word))?;
-            Ok(Function {
-                name: place.word.to_string(),
-                parameters: parts(inside)
-                    .into_iter()
-                    .map(parameter)
-                    .collect::<Read<_>>()?,
-                gives: kind(word(gives.trim_start()).0)?,
-            })
+            let gives = kind(word(gives.trim_start()).0)?;
+            Function::read(place.word, inside, parameter, gives)
         })
         .collect()
 }

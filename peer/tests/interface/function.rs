@@ -1,5 +1,6 @@
 //! A function as its caller in C sees it, and what differs between two.
 
+use super::text::{parts, Read};
 use std::fmt::{self, Display};
 
 /// A number, by its width.
@@ -57,6 +58,21 @@ impl Parameter {
 }
 
 impl Function {
+    /// A function whose parameters are read one by one from what its brackets hold.
+    pub fn read(
+        name: &str,
+        inside: &str,
+        parameter: impl Fn(&str) -> Read<Parameter>,
+        gives: Kind,
+    ) -> Read<Function> {
+        let parameters: Read<_> = parts(inside).into_iter().map(parameter).collect();
+        Ok(Function {
+            name: name.to_string(),
+            parameters: parameters?,
+            gives,
+        })
+    }
+
     /// The same function where yes and no cross as a byte.
     pub fn with_bytes(mut self) -> Function {
         for parameter in &mut self.parameters {

@@ -1,7 +1,7 @@
 //! The functions and the structs of the header for C.
 
 use super::function::{Function, Kind, Parameter, Width};
-use super::text::{bracketed, even, last_word, parts, places, without_comments, Read};
+use super::text::{bracketed, even, last_word, places, without_comments, Read};
 
 /// What the name of every function begins with.
 pub const BEGINNING: &str = "jorivelune_";
@@ -24,14 +24,8 @@ pub fn functions(text: &str) -> Read<Vec<Function>> {
             if !rest.starts_with(';') {
                 return Err(format!("{}: no declaration", place.word));
             }
-            Ok(Function {
-                name: place.word.to_string(),
-                parameters: parts(inside)
-                    .into_iter()
-                    .map(parameter)
-                    .collect::<Read<_>>()?,
-                gives: Kind::Number(number(&even(item))?),
-            })
+            let gives = Kind::Number(number(&even(item))?);
+            Function::read(place.word, inside, parameter, gives)
         })
         .collect()
 }

@@ -1,14 +1,15 @@
 -- `cycle_sizes::count_ones` meets its contract: the first j columns are added up, each of at most 8 ones. Assumes nothing.
 use mathlib.Core.Path.{_≡_, refl, ap, _∙_}
-use mathlib.Core.List.{List, [], _∷_, _++_}
+use mathlib.Core.List.{List}
 use Prim.Native.Nat.{ℕ, zero, suc, _+_, _-_, _*_, _≤_, _<_}
 use native.Mathlib.Numerals.{add-one}
 use native.Mathlib.Omega.{arith}
 use lib.ListN.{length, getD, take}
-use lib.Seq.{take-suc, take-all}
+use lib.Seq.{take-all}
 use borrow.Author.Needs.{needs}
 use Rattle.parity.specs.Lists.{sumOver, sumTo}
 use Rattle.parity.specs.Matrix.{bit, weight}
+use Rattle.parity.proofs.ListLaws.{sum-take-suc}
 use Rattle.parity.proofs.Sums.{bit-below}
 use Rattle.cycle_sizes.proofs.count_ones.Statement.{statement}
 use Rattle.cycle_sizes.proofs.count_ones.Tie as tie
@@ -21,14 +22,6 @@ bits-high (suc n) c = omega (arith, bits-high n c, bit-below n c)
 weight-high : (c : ℕ) → weight c ≤ 8
 unfolding weight
 weight-high c = bits-high 8 c
-
--- one column more
-weights-snoc : (cs : List ℕ) (c : ℕ) → sumOver (cs ++ (c ∷ [])) weight ≡ sumOver cs weight + weight c
-weights-snoc [] c = omega arith
-weights-snoc (d ∷ ds) c = omega (arith, weights-snoc ds c)
-
-weights-next : (cs : List ℕ) (j : ℕ) → j < length cs → sumOver (take (suc j) cs) weight ≡ sumOver (take j cs) weight + weight (getD cs j 0)
-weights-next cs j h = ap (λ ds. sumOver ds weight) (take-suc cs j 0 h) ∙ weights-snoc (take j cs) (getD cs j 0)
 
 -- what is known of the first j columns
 record Counted (columns : List ℕ) (j sum : ℕ) : Type 0 where
@@ -64,7 +57,7 @@ next c =
     record {
       within = omega arith;
       adds =
-          omega (arith, loop .inv .adds, one, weights-next columns (loop .j) inside, ap (λ n. sumOver (take n columns) weight) (add-one (loop .j)));
+          omega (arith, loop .inv .adds, one, sum-take-suc weight columns (loop .j) 0 inside, ap (λ n. sumOver (take n columns) weight) (add-one (loop .j)));
       few = omega (arith, loop .inv .few, one, weight-high (getD columns (loop .j) 0));
     }
 

@@ -104,7 +104,8 @@ module _ (c : tie.After-count-ones) where
   unfolding lookups span
   counted =
       let s = begun .args .shape in
-      let ones = c .count-ones .ensures .0 ∙ ap (λ cs. sumOver cs weight) (made (c .before .before .before .before)) ∙ sym (matrixOnes-weights s (taken begun)) in
+      let columns = made (c .before .before .before .before) in
+      let ones = c .count-ones .ensures .0 ∙ ap (λ cs. sumOver cs weight) columns ∙ sym (matrixOnes-weights s (taken begun)) in
       λ i. (spans (c .before .before) i - 1) * ones i
 
   high : (c .before .before .scale .result - 1) * c .count-ones .result ≤ mostLookups
