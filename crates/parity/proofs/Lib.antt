@@ -21,4 +21,5 @@ pub mod Distance
 pub mod CodewordTest
 pub mod MatrixOnes
 pub mod Longest
+pub mod Fewest
 pub mod Marked

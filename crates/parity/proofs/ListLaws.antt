@@ -214,6 +214,12 @@ module _ (R : ℕ → ℕ → Type 0) where
           let j′ : j < k = omega (arith, length-take k xs) in
           rw (getD-take, ← e) (h j i (omega (arith, ltb-false i k q)) l)
 
+-- ---- all that pass the test
+
+pub keep-all : (p : ℕ → Bool) (xs : List ℕ) → Each (λ x. p x ≡ true) xs → keep p xs ≡ xs
+keep-all p [] h = refl
+keep-all p (x ∷ xs) h = rw (h zero (zero-lt-suc _)) (ap (λ ys. x ∷ ys) (keep-all p xs (λ j l. h (suc j) (suc-le-suc l))))
+
 -- ---- one among them
 
 pub among-append-left : (c : ℕ) (xs ys : List ℕ) → Among c xs → Among c (xs ++ ys)

@@ -8,7 +8,7 @@ use native.Mathlib.Nat.{mul-le-mul, zero-lt-suc, div-le-self}
 use native.Mathlib.Omega.{arith}
 use lib.Dec.{leb}
 use lib.ListN.{length, take, drop, take-append-drop}
-use borrow.Author.Tests.{leb-true, ne-eqb}
+use borrow.Author.Tests.{leb-true}
 use Rattle.parity.specs.Lists.{keep, sumOver, everyTo}
 use Rattle.parity.specs.Shape.{digit, levels, largest, limit, redundancy, checks, columns}
 use Rattle.parity.specs.Matrix.{weight, ofWeight, columnOrder, eligible, ruleColumns, checkColumns, matrix, matrixOnes, lookups}
@@ -18,6 +18,7 @@ use Rattle.parity.specs.declared.Shape.{Shape}
 use Rattle.parity.proofs.ListLaws.{sum-append, Each, each-tabulate, grid-at}
 use Rattle.parity.proofs.Taken.{limits, errors-split}
 use Rattle.parity.proofs.Redundancy.{redundancyClaim, limit-high}
+use Rattle.parity.proofs.RuleColumns.{candidates, rule-columns}
 use Rattle.parity.proofs.MatrixFacts.{power-weight, matrixClaim}
 use Rattle.parity.proofs.CheckCells.{checkColumns-sized}
 use Rattle.parity.proofs.MatrixOnes.{matrixOnes-weights}
@@ -40,12 +41,12 @@ unfolding onesTest columnOrder ofWeight weight digit eligible
 tests-pass = refl
 
 rules-high : (τ r k : ℕ) → 2 ≤ τ → τ ≤ 3 → 1 ≤ r → r ≤ 8 → sumOver (ruleColumns τ r k) weight + r ≤ 1024
-unfolding onesTest ruleColumns
+unfolding onesTest
 rules-high zero r k low high r1 r8 = absurd (omega arith)
 rules-high (suc t) r k low high r1 r8 =
-    let list : List ℕ = keep (eligible (suc t) r) columnOrder in
+    let list : List ℕ = candidates (suc t) r in
     let all : sumOver list weight + r ≤ 1024 = leb-true _ _ (grid-at 2 8 (onesTest columnOrder) tests-pass t r (omega arith) (omega arith) r1 r8) in
-    rw (ne-eqb (suc t) 1 (λ e. omega arith)) (omega (arith, sum-take k list))
+    rw (rule-columns (suc t) r k low) (omega (arith, sum-take k list))
 
 -- each check column has one one
 checks-sum : (r : ℕ) → r ≤ 8 → sumOver (checkColumns r) weight ≡ r

@@ -4,7 +4,7 @@ use mathlib.Core.Path.{_≡_, refl, ap, _∙_}
 use mathlib.Core.Logic.{_≢_, _⊎_, inl, inr, ⊎-elim}
 use mathlib.Core.Bool.{true}
 use mathlib.Core.List.{List}
-use Prim.Native.Nat.{ℕ, zero, suc, _%_, _^_, _≤_, _<_}
+use Prim.Native.Nat.{ℕ, _%_, _^_, _≤_, _<_}
 use native.Mathlib.Omega.{arith}
 use lib.Dec.{eqb}
 use lib.ListN.{length, getD, replicate, length-append, length-replicate, getD-replicate}
@@ -20,7 +20,7 @@ use Rattle.parity.proofs.Taken.{errors-split}
 use Rattle.parity.proofs.Redundancy.{redundancyClaim, oneCheck}
 use Rattle.parity.proofs.ListLaws.{everyTo-at, Each, each-append, each-tabulate, Pairwise, pairs-append, pairs-tabulate}
 use Rattle.parity.proofs.CheckCells.{checkColumns-sized}
-use Rattle.parity.proofs.RuleColumns.{eligible-below, eligible-weight, eligible-odd, ruleColumnsClaim}
+use Rattle.parity.proofs.RuleColumns.{eligible-below, eligible-weight, eligible-nonzero, eligible-odd, ruleColumnsClaim}
 
 -- a check column has one one
 power-weights : everyTo 8 (λ ℓ. eqb (weight (2 ^ ℓ)) 1) ≡ true
@@ -30,16 +30,11 @@ power-weights = refl
 pub power-weight : (ℓ : ℕ) → ℓ < 8 → weight (2 ^ ℓ) ≡ 1
 power-weight ℓ h = eqb-true _ _ (everyTo-at 8 (λ ℓ. eqb (weight (2 ^ ℓ)) 1) power-weights ℓ h)
 
-weight-nonzero : (c : ℕ) → 2 ≤ weight c → 0 < c
-unfolding weight digit
-weight-nonzero zero h = absurd (omega arith)
-weight-nonzero (suc c) h = omega arith
-
 -- a rule column is 1 for τ = 1, and eligible for more
 abbrev pub RuleColumn : ℕ → ℕ → ℕ → Type 0
 RuleColumn τ r c = ((τ ≡ 1) × (c ≡ 1)) ⊎ ((2 ≤ τ) × (eligible τ r c ≡ true))
 
-precedes-apart : (c d : ℕ) → Precedes c d → c ≢ d
+pub precedes-apart : (c d : ℕ) → Precedes c d → c ≢ d
 precedes-apart c d (inl h) e = omega (arith, ap weight e)
 precedes-apart c d (inr h) e = omega arith
 
@@ -95,7 +90,7 @@ module _ (s : Shape) (t : Taken s) where
       let claim = redundancyClaim s t in
       record {
         sized = matrix-sized;
-        nonzero = matrix-each (λ c. 0 < c) (λ c. ⊎-elim (λ o. omega arith) (λ e. weight-nonzero c (eligible-weight _ _ c (e .1)))) (λ ℓ h. pow-pos ℓ);
+        nonzero = matrix-each (λ c. 0 < c) (λ c. ⊎-elim (λ o. omega arith) (λ e. eligible-nonzero _ _ c (e .1))) (λ ℓ h. pow-pos ℓ);
         inChecks =
             matrix-each (λ c. c < 2 ^ checks s)
             (λ c. ⊎-elim (λ o. omega (arith, pow-lt {i = 0} (claim .low))) (λ e. eligible-below _ _ c (e .1))) (λ ℓ h. pow-lt h);

@@ -1,6 +1,6 @@
--- W counted twice: the ones of the check matrix, by definition counted check row by check row, are the weights of its columns added up.
+-- Ones counted twice: those of a matrix, W among them, by definition counted check row by check row, are the weights of its columns added up.
 -- Assumes nothing.
-use mathlib.Core.Path.{_≡_, refl, _∙_, ap, ap₂}
+use mathlib.Core.Path.{_≡_, refl, sym, _∙_, ap, ap₂}
 use mathlib.Core.Logic.{⊎-elim}
 use mathlib.Core.Bool.{Bool, true, false, cond}
 use mathlib.Core.List.{List, [], _∷_}
@@ -13,7 +13,7 @@ use lib.Pow.{pow-mono}
 use borrow.Author.Tests.{eqb-true, eqb-false}
 use Rattle.parity.specs.Lists.{sumOver, sumTo}
 use Rattle.parity.specs.Shape.{checks}
-use Rattle.parity.specs.Matrix.{bit, weight, matrix, placesFrom, support, matrixOnes}
+use Rattle.parity.specs.Matrix.{bit, weight, matrix, placesFrom, support, matrixOnes, onesOf}
 use Rattle.parity.specs.Questions.{Taken}
 use Rattle.parity.specs.declared.Shape.{Shape}
 use Rattle.parity.proofs.ListLaws.{Each}
@@ -57,11 +57,20 @@ first-bits r (suc n) c le h =
     omega (arith, first-bits r n c within h, bit-beyond c n (omega (arith, pow-mono {i = r} {j = n} within))))
     (eq-or-lt-of-le le)
 
+-- so the ones of a matrix are the weights of its columns, added up
+pub ones-weights : (r : ℕ) (cs : List ℕ) → r ≤ 8 → Each (λ c. c < 2 ^ r) cs → onesOf r cs ≡ sumOver cs weight
+unfolding onesOf weight
+ones-weights r cs high below =
+    ap (sumTo r) (λ i ℓ. places-length 0 ℓ cs i)
+    ∙ double-count r cs
+    ∙ sumOver-same (λ c. sumTo r (λ ℓ. bit ℓ c)) weight cs (λ j h. first-bits r 8 (getD cs j 0) high (below j h))
+
+-- W is those of the check matrix
+pub matrixOnes-ones : (s : Shape) → onesOf (checks s) (matrix s) ≡ matrixOnes s
+unfolding onesOf matrixOnes support
+matrixOnes-ones s = refl
+
 pub matrixOnes-weights : (s : Shape) → Taken s → matrixOnes s ≡ sumOver (matrix s) weight
-unfolding matrixOnes support weight
 matrixOnes-weights s t =
     let claim = matrixClaim s t in
-    ap (sumTo (checks s)) (λ i ℓ. places-length 0 ℓ (matrix s) i)
-    ∙ double-count (checks s) (matrix s)
-    ∙ sumOver-same (λ c. sumTo (checks s) (λ ℓ. bit ℓ c)) weight (matrix s)
-    (λ j h. first-bits (checks s) 8 (getD (matrix s) j 0) (redundancyClaim s t .high) (claim .inChecks j (omega arith)))
+    sym (matrixOnes-ones s) ∙ ones-weights (checks s) (matrix s) (redundancyClaim s t .high) (λ j h. claim .inChecks j (omega (arith, claim .sized)))

@@ -7,3 +7,4 @@ pub mod Match
 pub mod Questions
 pub mod Marked
 pub mod Claims
+pub mod Fewest

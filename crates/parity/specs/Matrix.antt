@@ -53,6 +53,10 @@ support s ℓ = placesFrom 0 ℓ (matrix s)
 unfoldable pub matrixOnes : Shape → ℕ
 matrixOnes s = sumTo (checks s) (λ ℓ. length (support s ℓ))
 
+-- the ones of any matrix with r check rows (the paper's ‖H‖), counted in the same way
+unfoldable pub onesOf : ℕ → List ℕ → ℕ
+onesOf r cs = sumTo r (λ ℓ. length (placesFrom 0 ℓ cs))
+
 -- the lookups of a detection cycle that skips the z lowest digits: (q / ρ^z − 1) × W
 unfoldable pub lookups : ℕ → Shape → ℕ
 lookups z s = (levels s / s .radix ^ z - 1) * matrixOnes s
