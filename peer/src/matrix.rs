@@ -93,9 +93,15 @@ pub(crate) fn checks(errors: usize, width: usize) -> Option<usize> {
     Some(least + 1)
 }
 
-/// The first so many rule columns.
-pub(crate) fn rule_columns(errors: usize, checks: usize, width: usize) -> &'static [u8] {
-    &RULE_COLUMNS[errors - 1][checks - 1][..width]
+/// The first so many rule columns beside so many check columns, which need not be
+/// the least number that carries them.
+///
+/// # Panics
+///
+/// If they do not carry so many.
+pub fn rule_columns(errors: usize, checks: usize, width: usize) -> &'static [u8] {
+    let largest = LARGEST_WIDTH[errors - 1][checks - 1];
+    &RULE_COLUMNS[errors - 1][checks - 1][..largest][..width]
 }
 
 impl Layout {
