@@ -65,7 +65,7 @@ ones-weights r cs high below =
     ∙ double-count r cs
     ∙ sumOver-same (λ c. sumTo r (λ ℓ. bit ℓ c)) weight cs (λ j h. first-bits r 8 (getD cs j 0) high (below j h))
 
--- W is those of the check matrix
+-- W is the ones of the check matrix
 pub matrixOnes-ones : (s : Shape) → onesOf (checks s) (matrix s) ≡ matrixOnes s
 unfolding onesOf matrixOnes support
 matrixOnes-ones s = refl
