@@ -84,7 +84,7 @@ oneCheck s t e =
     omega arith
 
 -- a search that does not run to its end found a number that passes
-first-passes : (p : ℕ → Bool) (n i : ℕ) → firstFrom p n i < i + n → p (firstFrom p n i) ≡ true
+pub first-passes : (p : ℕ → Bool) (n i : ℕ) → firstFrom p n i < i + n → p (firstFrom p n i) ≡ true
 first-passes p zero i h = absurd (omega arith)
 first-passes p (suc n) i h = go (p i) refl (first-passes p n (suc i))
   where
@@ -92,7 +92,7 @@ first-passes p (suc n) i h = go (p i) refl (first-passes p n (suc i))
     go true q rest = rw q q
     go false q rest = rw q (rest (omega (arith, ap (λ t. cond t i (firstFrom p n (suc i))) q)))
 
-first-low : (p : ℕ → Bool) (n i : ℕ) → i ≤ firstFrom p n i
+pub first-low : (p : ℕ → Bool) (n i : ℕ) → i ≤ firstFrom p n i
 first-low p zero i = omega arith
 first-low p (suc n) i = go (p i) (first-low p n (suc i))
   where

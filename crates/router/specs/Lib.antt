@@ -1,0 +1,6 @@
+-- What a reader has to believe: the router's questions, its calls, and what their answers say; last what only serves the code.
+pub mod Questions
+pub mod Calls
+pub mod Routes
+pub mod Answers
+pub mod Pairs
