@@ -6,28 +6,35 @@
 //
 // A shape is rho, b, tau, k and m: the radix, the digits of a level, the changed cells per row that are caught, the
 // rule columns and the rows. From it follow, as jorivelune_sizes tells, q = rho to the power b levels, r check columns,
-// n = k + r columns, m x n cells, blocks of 64 rows, and the steps of a cycle. The buffers:
+// n = k + r columns, m x n cells, blocks of 64 rows, and the steps of a cycle. A belt rule has f = k / 2 features. The
+// buffers:
 //
 //   buffer    bytes          written by                     a byte is
-//   cells     m x n          clear, program, commit, drift  a level below q; in each row k rule cells, r check cells
+//   cells     m x n          clear, rule, program, commit,  a level below q; in each row k rule cells, r check cells
+//                            drift
 //   lines     m              clear, line                    the row's match line: 0 is sound, any other dead
 //   counters  m              clear, start, steps            what the open check row has counted, modulo rho
 //   flags     m              clear, start, steps            1 where the row is flagged, else 0
 //   totals    (m + 63) / 64  clear, start, steps            the flagged rows of a block of 64 rows
 //   matches   m              steps, lookup                  1 where the row matched the last vector, else 0
+//   belts     m              rule                           the belt of the row's rule
+//   lows      f              the caller, rule_at            the lowest value of a feature that the rule holds, below q
+//   highs     f              the caller, rule_at            the highest value of a feature that the rule holds, below q
+//   values    f              the caller                     a bottle's value of a feature, below q
 //   levels    k              the caller                     a level below q: the rule cells of a row
 //   inputs    k              the caller                     an input below q: what a lookup feeds the rule columns
 //   finished  n              ask, then the caller's         a cell of a row that is ready to be committed
 //   out       k              read                           a rule cell of a row
 //
 // "Steps" are jorivelune_step, jorivelune_steps and jorivelune_run. Every buffer comes with its length. Any length may
-// be given: question 6 refuses a wrong one.
+// be given: question 6 refuses a wrong one. No call but jorivelune_rule writes a belt, so a clear keeps them.
 //
 // What a caller owes, since no call can ask for it:
 // - each pointer is valid for the length that is given with it, for reading, and for writing where it is not const; it
 //   is not NULL, also where the length is 0 (the calls of jorivelune_head.h take NULL);
 // - no two buffers of one call overlap, nor does the record or an answer lie in a buffer;
-// - the record and the pointers for answers (size_t *, bool *) are valid, writable and aligned, no two the same.
+// - the record and the pointers for answers (size_t *, bool *, the uint8_t *belt of a route and of a rule that is read)
+//   are valid, writable and aligned, no two the same.
 #ifndef JORIVELUNE_H
 #define JORIVELUNE_H
 
@@ -148,6 +155,34 @@ uint8_t jorivelune_run(struct jorivelune_record *record, struct jorivelune_shape
                        uint8_t *flags, size_t flags_length,
                        uint8_t *totals, size_t totals_length,
                        uint8_t *matches, size_t matches_length);
+
+// ---- belt rules: ranges of values, and the belt for the bottles that are in all of them
+
+// Writes a rule to a row: a bottle is held where each of its f values is from the low to the high of that feature. The
+// row becomes what programming it leaves with high in column 2i and q - 1 - low in column 2i + 1 for feature i; the
+// record becomes idle, and the row's belt becomes the rule's. Questions 1 to 5, 18 where k is odd, 6, 7, 8 where a low or
+// a high is not below q, and then 19 where a low is above its high.
+uint8_t jorivelune_rule(struct jorivelune_record *record, struct jorivelune_shape shape,
+                        uint8_t *cells, size_t cells_length,
+                        uint8_t *belts, size_t belts_length,
+                        size_t row, const uint8_t *lows, size_t lows_length,
+                        const uint8_t *highs, size_t highs_length, uint8_t belt);
+
+// The first row whose rule holds the bottle goes to found, m where none does, and its belt to belt, 0 where none does.
+// The row is that of jorivelune_first_match with x in column 2i and q - 1 - x in column 2i + 1 for value x of feature i.
+// Questions 1 to 5, 18, 6, then 8.
+uint8_t jorivelune_route(struct jorivelune_shape shape, const uint8_t *cells, size_t cells_length,
+                         const uint8_t *lines, size_t lines_length,
+                         const uint8_t *belts, size_t belts_length,
+                         const uint8_t *values, size_t values_length, size_t *found, uint8_t *belt);
+
+// The rule that stands in a row goes to lows, highs and belt: high is the cell of column 2i, and low is q - 1 less the
+// cell of column 2i + 1, 0 where that cell is q or more. Of a cleared row they are q - 1 and 0, which hold no value.
+// Questions 1 to 5, 18, 6, then 7.
+uint8_t jorivelune_rule_at(struct jorivelune_shape shape, const uint8_t *cells, size_t cells_length,
+                           const uint8_t *belts, size_t belts_length,
+                           size_t row, uint8_t *lows, size_t lows_length,
+                           uint8_t *highs, size_t highs_length, uint8_t *belt);
 
 // ---- the panel
 

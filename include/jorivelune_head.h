@@ -7,7 +7,8 @@
 //   struct jorivelune_shape shape = {2, 3, 2, 50, 512};
 //   if (jorivelune_head_lend(&head, shape, memory, sizeof memory) == JORIVELUNE_TAKEN) ..
 //
-// The caller's own buffers (levels, finished, inputs, out) come with their lengths, and question 6 refuses a wrong one.
+// The caller's own buffers (lows, highs, values, levels, finished, inputs, out) come with their lengths, and question 6
+// refuses a wrong one.
 // NULL stands for no bytes at all, so 6 refuses it; for an answer it says that the answer is not wanted.
 #ifndef JORIVELUNE_HEAD_H
 #define JORIVELUNE_HEAD_H
@@ -19,9 +20,9 @@ extern "C" {
 #endif
 
 // The bytes of memory that are enough for a head of so many rows and rule columns, whatever tau, for memory that is set
-// aside when the program is built: 8 is the most check columns, and 4 the buffers of one byte a row.
+// aside when the program is built: 8 is the most check columns, and 5 the buffers of one byte a row.
 // jorivelune_head_bytes tells the exact number.
-#define JORIVELUNE_HEAD_BYTES(rows, width) ((rows) * ((width) + 8 + 4) + ((rows) + 63) / 64)
+#define JORIVELUNE_HEAD_BYTES(rows, width) ((rows) * ((width) + 8 + 5) + ((rows) + 63) / 64)
 
 // So many bytes of the memory that is lent.
 struct jorivelune_part {
@@ -32,7 +33,7 @@ struct jorivelune_part {
 struct jorivelune_head {
     struct jorivelune_shape shape;
     struct jorivelune_record record;
-    struct jorivelune_part cells, lines, counters, flags, totals, matches;
+    struct jorivelune_part cells, lines, counters, flags, totals, matches, belts;
 };
 
 // What jorivelune_sizes tells.
@@ -72,10 +73,10 @@ static inline uint8_t jorivelune_head_sizes(struct jorivelune_shape shape, size_
                             &sizes->steps);
 }
 
-// The bytes of memory that a head of this shape and these sizes needs: its cells, four buffers of a byte a row, totals.
+// The bytes of memory that a head of this shape and these sizes needs: its cells, five buffers of a byte a row, totals.
 static inline size_t jorivelune_head_sum(struct jorivelune_shape shape, struct jorivelune_told_sizes sizes)
 {
-    return sizes.cells + 4 * shape.rows + sizes.blocks;
+    return sizes.cells + 5 * shape.rows + sizes.blocks;
 }
 
 // The same of a shape, 0 where it is refused.
@@ -101,7 +102,8 @@ static inline struct jorivelune_part jorivelune_head_cut(uint8_t **memory, size_
 }
 
 // Makes a head of this shape in the memory, which is not written: jorivelune_head_clear makes the fresh array there,
-// and jorivelune_head_start opens a cycle on cells and lines that stand there already. Questions 1 to 5, then 6 where
+// and jorivelune_head_start opens a cycle on cells and lines that stand there already. A belt is whatever byte stands
+// there until jorivelune_head_rule writes it. Questions 1 to 5, then 6 where
 // the memory is too short. A refusal leaves the head as it was.
 static inline uint8_t jorivelune_head_lend(struct jorivelune_head *head, struct jorivelune_shape shape,
                                            uint8_t *memory, size_t memory_length)
@@ -122,6 +124,7 @@ static inline uint8_t jorivelune_head_lend(struct jorivelune_head *head, struct 
     head->flags = jorivelune_head_cut(&memory, shape.rows);
     head->totals = jorivelune_head_cut(&memory, sizes.blocks);
     head->matches = jorivelune_head_cut(&memory, shape.rows);
+    head->belts = jorivelune_head_cut(&memory, shape.rows);
     return JORIVELUNE_TAKEN;
 }
 
@@ -192,6 +195,35 @@ static inline uint8_t jorivelune_head_run(struct jorivelune_head *head, size_t s
 {
     return jorivelune_run(&head->record, head->shape, skip, JORIVELUNE_PART(head->cells), JORIVELUNE_PART(head->lines),
                           JORIVELUNE_ROW_PARTS(head), JORIVELUNE_PART(head->matches));
+}
+
+// ---- belt rules
+
+static inline uint8_t jorivelune_head_rule(struct jorivelune_head *head, size_t row,
+                                           const uint8_t *lows, size_t lows_length,
+                                           const uint8_t *highs, size_t highs_length, uint8_t belt)
+{
+    return jorivelune_rule(&head->record, head->shape, JORIVELUNE_PART(head->cells), JORIVELUNE_PART(head->belts), row,
+                           JORIVELUNE_GIVEN(lows), JORIVELUNE_GIVEN(highs), belt);
+}
+
+static inline uint8_t jorivelune_head_route(const struct jorivelune_head *head,
+                                            const uint8_t *values, size_t values_length, size_t *found, uint8_t *belt)
+{
+    size_t unread;
+    uint8_t unread_belt;
+    return jorivelune_route(head->shape, JORIVELUNE_PART(head->cells), JORIVELUNE_PART(head->lines),
+                            JORIVELUNE_PART(head->belts), JORIVELUNE_GIVEN(values), found == NULL ? &unread : found,
+                            belt == NULL ? &unread_belt : belt);
+}
+
+static inline uint8_t jorivelune_head_rule_at(const struct jorivelune_head *head, size_t row,
+                                              uint8_t *lows, size_t lows_length,
+                                              uint8_t *highs, size_t highs_length, uint8_t *belt)
+{
+    uint8_t unread;
+    return jorivelune_rule_at(head->shape, JORIVELUNE_PART(head->cells), JORIVELUNE_PART(head->belts), row,
+                              JORIVELUNE_LENT(lows), JORIVELUNE_LENT(highs), belt == NULL ? &unread : belt);
 }
 
 // ---- calls without the record

@@ -22,6 +22,8 @@
     ENTRY(JORIVELUNE_BAD_JOB_FIELDS, 14, "m x k levels, the drift count d and d drifts of 4 bytes follow, no more") \
     ENTRY(JORIVELUNE_BAD_SKIP, 15, "a cycle must skip fewer than b digits") \
     ENTRY(JORIVELUNE_BAD_LINE, 16, "a line byte must be 0 (sound) or 1 (dead)") \
-    ENTRY(JORIVELUNE_BAD_FINISHED, 17, "a finished row must be sound: its check cells those of its levels")
+    ENTRY(JORIVELUNE_BAD_FINISHED, 17, "a finished row must be sound: its check cells those of its levels") \
+    ENTRY(JORIVELUNE_BAD_FEATURES, 18, "for belt rules the rule columns k must be even: two for each feature") \
+    ENTRY(JORIVELUNE_BAD_RANGE, 19, "no low of a belt rule may be above its high")
 
 #endif

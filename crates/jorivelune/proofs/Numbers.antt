@@ -50,7 +50,7 @@ tells {said = said} t e = let same : Told said = subst Told e t in e ∙ (λ i. 
 
 module _ {S : Type 0} {call : Result S} {bytes : List ℕ} {state : S} (t : Told (call .said)) where
   -- with the bytes and the state
-  gives : {said : Said ℕ} → call ≡ giving said bytes state → call ≡ giving (telling (said .number) (said .value)) bytes state
+  pub gives : {said : Said ℕ} → call ≡ giving said bytes state → call ≡ giving (telling (said .number) (said .value)) bytes state
   gives e = e ∙ ap (λ said. giving said bytes state) (tells (subst Told (ap (λ r. r .said) e) t) refl)
 
   -- by the number and the value

@@ -2,5 +2,6 @@
 // the number of the first question that fails, 0 where it is taken.
 pub mod calls;
 pub mod cells;
+pub mod routes;
 pub mod sizes;
 pub mod summary;
