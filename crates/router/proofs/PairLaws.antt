@@ -20,7 +20,7 @@ use Rattle.shape.specs.declared.sizes.Sizes.{Sizes}
 use Rattle.router_ranges.specs.Ranges.{features, paired}
 use Rattle.router_ranges.proofs.Pairs.{paired-length}
 use Rattle.router.specs.Pairs.{PairsLent}
-use Rattle.router.proofs.Asked.{two-levels}
+use Rattle.router_questions.proofs.Asked.{two-levels}
 
 -- two bytes stored one after the other, after the n that are there already and before those that are to follow
 two-stored :

@@ -9,7 +9,7 @@ use Rattle.array_memory.specs.Geometry.{rowAt}
 use Rattle.array_memory.specs.Memory.{Memory}
 use Rattle.cycle.specs.Calls.{State, programCall}
 use Rattle.router_ranges.specs.Ranges.{features, Ranges, Rule, ruleLevels, rangesIn}
-use Rattle.router.specs.Questions.{ruleQuestions, ruleAtQuestions}
+use Rattle.router_questions.specs.Questions.{ruleQuestions, ruleAtQuestions}
 
 -- the array's state, and the belts, m bytes of the router's own
 pub record Router : Type 0 where

@@ -1,5 +1,4 @@
--- What a reader has to believe: the router's questions, its calls, and what their answers say; last what only serves the code.
-pub mod Questions
+-- What a reader has to believe: the router's calls, and what their answers say; last what only serves the code.
 pub mod Calls
 pub mod Routes
 pub mod Answers

@@ -9,7 +9,7 @@ use Rattle.shape.specs.Answers.{Said, Found, row, none, answering}
 use Rattle.array_memory.specs.Memory.{Memory}
 use Rattle.array_lookup.specs.Lookups.{firstCall}
 use Rattle.router_ranges.specs.Ranges.{bottleInputs}
-use Rattle.router.specs.Questions.{routeQuestions}
+use Rattle.router_questions.specs.Questions.{routeQuestions}
 
 -- a row and its belt, or none
 pub data Destination : Type 0 where

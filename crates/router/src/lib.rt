@@ -3,7 +3,6 @@
 // (`.._lent`): what the call does where its questions have been passed.
 pub mod answer;
 pub mod pairs;
-pub mod questions;
 pub mod read;
 pub mod route;
 pub mod rule;

@@ -1,8 +1,8 @@
 // Rule at: a rule read back from its row.
 use super::answer::Belt;
 use super::pairs::part;
-use super::questions::check_rule_at;
 use parity::Shape;
+use router_questions::check_rule_at;
 use shape::sizes::Checked;
 use shape::sizes::Sizes;
 ghost use mathlib.Core.Path.{_≡_};
@@ -14,7 +14,7 @@ ghost use Rattle.shape.specs.Shapes.{Passed};
 ghost use Rattle.array_memory.specs.Buffers.{wasCells};
 ghost use Rattle.array_memory.specs.Memory.{Memory};
 ghost use Rattle.router_ranges.specs.Ranges.{rangesOf};
-ghost use Rattle.router.specs.Questions.{ruleAtQuestions};
+ghost use Rattle.router_questions.specs.Questions.{ruleAtQuestions};
 ghost use Rattle.router.specs.Calls.{ruleAtCall};
 ghost use Rattle.router.specs.Answers.{beltSays};
 

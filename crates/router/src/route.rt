@@ -1,9 +1,9 @@
 // Route: the belt for a bottle.
 use super::answer::Routed;
 use super::pairs::pair;
-use super::questions::check_route;
 use array_lookup::first::first_lent;
 use parity::Shape;
+use router_questions::check_route;
 use shape::answer::First;
 use shape::sizes::Checked;
 use shape::sizes::Sizes;
@@ -13,7 +13,7 @@ ghost use Rattle.shape.specs.Lent.{was};
 ghost use Rattle.shape.specs.Shapes.{Passed};
 ghost use Rattle.array_memory.specs.Buffers.{wasArray};
 ghost use Rattle.array_memory.specs.Memory.{Memory};
-ghost use Rattle.router.specs.Questions.{routeQuestions};
+ghost use Rattle.router_questions.specs.Questions.{routeQuestions};
 ghost use Rattle.router.specs.Routes.{routeCall};
 ghost use Rattle.router.specs.Answers.{routedSays};
 

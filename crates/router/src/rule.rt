@@ -1,12 +1,12 @@
 // Rule: what a fitter programs a row with.
 use super::pairs::pair;
-use super::questions::check_rule;
 use array::write::write_row;
 use cycle::Changed;
 use cycle::Cycle;
 use cycle::calls::done;
 use cycle::calls::refused;
 use parity::Shape;
+use router_questions::check_rule;
 use shape::sizes::Checked;
 use shape::sizes::Sizes;
 ghost use mathlib.Core.Path.{_≡_};
@@ -22,7 +22,7 @@ ghost use Rattle.cycle.specs.Methods.{changing};
 ghost use Rattle.cycle.specs.Record.{idle};
 ghost use Rattle.cycle.specs.declared.Cycle.{Cycle as CycleRecord};
 ghost use Rattle.router_ranges.specs.Ranges.{rangesOf, ruleOf};
-ghost use Rattle.router.specs.Questions.{ruleQuestions};
+ghost use Rattle.router_questions.specs.Questions.{ruleQuestions};
 ghost use Rattle.router.specs.Calls.{routerOf, withBelts, ruleCall};
 
 // A rule whose questions have been passed: its levels are made in an array of the call's own, and the row is written from them.

@@ -3,7 +3,7 @@
 use mathlib.Core.Path.{_≡_, refl, sym, ap, subst, _∙_}
 use mathlib.Core.Logic.{_≢_}
 use mathlib.Core.Bool.{Bool, true, false}
-use mathlib.Core.List.{List, [], _∷_, _++_}
+use mathlib.Core.List.{List, [], _∷_}
 use Prim.Native.Nat.{ℕ, zero, suc, _<_}
 use native.Mathlib.Omega.{arith}
 use lib.Dec.{eqb}
@@ -27,7 +27,7 @@ use Rattle.detection.proofs.Detection.{detectionClaim}
 use Rattle.router_ranges.specs.Ranges.{features, Rule, ruleLevels}
 use Rattle.router_ranges.specs.Claims.{Proper}
 use Rattle.router.specs.Calls.{Router, routerOf}
-use Rattle.router.proofs.Asked.{RuleTaken}
+use Rattle.router_questions.proofs.Asked.{RuleTaken}
 use Rattle.router_lists.specs.Run.{RouterCall, plain, rule, routerAfter, runRouter}
 use Rattle.router_lists.specs.Log.{Written, cleared, ruled, other, RouterLog, routerLogOf, rulesTaken, routerTaken, routerArguments, routerLogCall, routerLog}
 use Rattle.router_lists.specs.Log.{lowerCall, lowered}

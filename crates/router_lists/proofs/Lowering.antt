@@ -17,9 +17,9 @@ use Rattle.cycle.specs.Calls.{programCall}
 use Rattle.call_lists.specs.Run.{Call, program, after, runFrom}
 use Rattle.detection.specs.Log.{logWritten, logTaken, argumentsOf, logFrom}
 use Rattle.router_ranges.specs.Ranges.{Ranges, Rule, ruleLevels}
-use Rattle.router.specs.Questions.{featuresQuestion, ruleArguments, ruleQuestions}
+use Rattle.router_questions.specs.Questions.{featuresQuestion, ruleArguments, ruleQuestions}
 use Rattle.router.specs.Calls.{Router, routerOf, withBelts, ruleCall}
-use Rattle.router.proofs.Asked.{RuleTaken, rule-taken, rule-programs}
+use Rattle.router_questions.proofs.Asked.{RuleTaken, rule-taken, rule-programs}
 use Rattle.router_lists.specs.Run.{RouterCall, plain, rule, routerAfter}
 use Rattle.router_lists.specs.Log.{RouterLog, routerTaken, routerArguments, routerLogCall, lowerCall}
 

@@ -22,7 +22,7 @@ use Rattle.router_ranges.specs.Ranges.{features, ruleLevels, bottleInputs}
 use Rattle.router_ranges.specs.Claims.{Bottle}
 use Rattle.router_ranges.proofs.Ranges.{rangesClaim, levels-sized, inputs-sized}
 use Rattle.router.specs.Calls.{Router}
-use Rattle.router.proofs.Asked.{two-levels}
+use Rattle.router_questions.proofs.Asked.{two-levels}
 use Rattle.router_lists.specs.Log.{Written, cleared, ruled, other, RouterLog}
 use Rattle.router_lists.specs.Claims.{ruleHolds}
 use Rattle.router_lists.proofs.Fits.{Row, Fits}

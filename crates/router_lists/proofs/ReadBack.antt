@@ -1,11 +1,10 @@
 -- A rule that stands as it was written is read back as that rule, and a cleared row as ranges that hold nothing. Assumes nothing.
-use mathlib.Core.Path.{_≡_, refl, sym, ap, ap₂, subst, _∙_}
+use mathlib.Core.Path.{_≡_, ap, ap₂, subst, _∙_}
 use mathlib.Core.List.{List, [], _++_}
 use Prim.Native.Nat.{ℕ, suc, _+_, _-_, _*_, _%_, _<_}
 use native.Mathlib.Nat.{sub-zero}
 use native.Mathlib.Omega.{arith}
 use lib.ListN.{length, getD, replicate, List·getD-append}
-use Rattle.parity.specs.Lists.{tabulate}
 use Rattle.parity.specs.Shape.{levels, columns}
 use Rattle.parity.specs.Codeword.{encode}
 use Rattle.parity.specs.Questions.{Taken}
@@ -13,14 +12,13 @@ use Rattle.parity.specs.declared.Shape.{Shape}
 use Rattle.parity.proofs.ListLaws.{tabulate-same, tabulate-constant, same-at}
 use Rattle.shape.specs.Answers.{accepted, giving}
 use Rattle.shape.proofs.Calling.{call-done}
-use Rattle.array_memory.specs.Geometry.{rowAt}
 use Rattle.detection.proofs.Agreement.{sized, row-stands}
 use Rattle.router_ranges.specs.Ranges.{features, Ranges, rangesOf, Rule, ruleLevels, rangesIn}
 use Rattle.router_ranges.proofs.Ranges.{rangesClaim, levels-sized}
 use Rattle.router.specs.Calls.{Router, ruleAtCall}
-use Rattle.router.proofs.Asked.{RuleAtTaken, rule-at-fits}
+use Rattle.router_questions.proofs.Asked.{RuleAtTaken, rule-at-fits}
 use Rattle.router_lists.specs.Run.{RouterCall, runRouter}
-use Rattle.router_lists.specs.Log.{Written, cleared, ruled, other, RouterLog, routerLog}
+use Rattle.router_lists.specs.Log.{Written, cleared, ruled, RouterLog, routerLog}
 use Rattle.router_lists.specs.Claims.{writtenAt, Stands, Out, readAt, ReadsBack, ReadBackClaim}
 use Rattle.router_lists.proofs.Fits.{RuleRow, Row, Fits, fits}
 use Rattle.router_lists.proofs.Routes.{halves}

@@ -2,7 +2,7 @@
 use mathlib.Core.Path.{_≡_, refl, sym, ap, _∙_}
 use mathlib.Core.Logic.{_↔_, _≢_}
 use mathlib.Core.Bool.{Bool, true, false, cond, true≢false}
-use mathlib.Core.List.{List, []}
+use mathlib.Core.List.{List}
 use Prim.Native.Nat.{ℕ, _+_, _%_, _≤_, _<_}
 use native.Mathlib.Omega.{arith}
 use lib.Dec.{eqb, ltb}
@@ -22,7 +22,7 @@ use Rattle.router_ranges.specs.Ranges.{features, bottleInputs}
 use Rattle.router_ranges.specs.Claims.{Bottle}
 use Rattle.router.specs.Calls.{Router}
 use Rattle.router.specs.Routes.{Destination, to, nowhere, destination, routeCall}
-use Rattle.router.proofs.Asked.{RouteTaken, route-fits, route-asks}
+use Rattle.router_questions.proofs.Asked.{RouteTaken, route-fits, route-asks}
 use Rattle.router_lists.specs.Run.{RouterCall, runRouter}
 use Rattle.router_lists.specs.Log.{Written, cleared, ruled, other, RouterLog, routerLog}
 use Rattle.router_lists.specs.Claims.{ruleHolds, ruleBelt, writtenAt, Trusted, toFirst, firstRule, routed, Routes, reached, RouteClaim, CardClaim}

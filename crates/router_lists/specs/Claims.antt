@@ -10,12 +10,12 @@ use Rattle.parity.specs.Shape.{levels}
 use Rattle.parity.specs.Questions.{Taken}
 use Rattle.parity.specs.declared.Shape.{Shape}
 use Rattle.shape.specs.Answers.{Said, Found, row, none, rowOrNone, Result, accepted, giving}
-use Rattle.call_lists.specs.Run.{Call, run}
-use Rattle.detection.specs.Log.{Log, log}
+use Rattle.call_lists.specs.Run.{run}
+use Rattle.detection.specs.Log.{log}
 use Rattle.detection.specs.Claims.{Detects}
 use Rattle.router_ranges.specs.Ranges.{features, Ranges, rangesOf, Rule, holds}
 use Rattle.router_ranges.specs.Claims.{Bottle}
-use Rattle.router.specs.Calls.{Router, ruleAtCall}
+use Rattle.router.specs.Calls.{ruleAtCall}
 use Rattle.router.specs.Routes.{Destination, to, nowhere, routeCall}
 use Rattle.router_lists.specs.Run.{RouterCall, runRouter}
 use Rattle.router_lists.specs.Log.{Written, cleared, ruled, other, routerLog, lowered}

@@ -3,12 +3,12 @@ use mathlib.Core.Path.{_≡_}
 use mathlib.Core.List.{List, [], _∷_, _++_, map}
 use Prim.Native.Nat.{ℕ}
 use Rattle.parity.specs.declared.Shape.{Shape}
-use Rattle.shape.specs.Answers.{Said, Result, accepted, refused, giving}
+use Rattle.shape.specs.Answers.{accepted, refused, giving}
 use Rattle.call_lists.specs.Run.{clear, program, drift, line}
-use Rattle.router_ranges.specs.Ranges.{Ranges, rangesOf, Rule, ruleOf}
-use Rattle.router.specs.Routes.{Destination, to, nowhere}
+use Rattle.router_ranges.specs.Ranges.{rangesOf, Rule, ruleOf}
+use Rattle.router.specs.Routes.{to, nowhere}
 use Rattle.router_lists.specs.Run.{RouterCall, plain, rule, routerCallOf, runRouter}
-use Rattle.router_lists.specs.Log.{Written, cleared, ruled, other, routerLog}
+use Rattle.router_lists.specs.Log.{cleared, ruled, other, routerLog}
 use Rattle.router_lists.specs.Claims.{routed, readAt}
 
 abbrev pub small : Shape

@@ -11,7 +11,7 @@ use Rattle.parity.specs.declared.Shape.{Shape}
 use Rattle.call_lists.specs.Run.{Call, clear, start, program, ask, commit, drift, line, lookup, step}
 use Rattle.detection.specs.Log.{Log, blank, logWritten, logTaken, argumentsOf}
 use Rattle.router_ranges.specs.Ranges.{Rule, ruleLevels}
-use Rattle.router.specs.Questions.{featuresQuestion, ruleArguments}
+use Rattle.router_questions.specs.Questions.{featuresQuestion, ruleArguments}
 use Rattle.router_lists.specs.Run.{RouterCall, plain, rule}
 
 -- ---- what it holds

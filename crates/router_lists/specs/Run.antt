@@ -1,6 +1,6 @@
 -- Document 02, Card 6: lists of the router. Its calls are those of demand 3 and rule; a list of them is run from the fresh array, with any belts, by the
 -- calls' own definitions.
-use mathlib.Core.List.{List, [], _∷_, _++_}
+use mathlib.Core.List.{List}
 use Prim.Native.Nat.{ℕ}
 use Rattle.parity.specs.Lists.{followed}
 use Rattle.parity.specs.declared.Shape.{Shape}

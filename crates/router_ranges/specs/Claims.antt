@@ -1,14 +1,12 @@
 -- The theorem on rules and bottles in the columns, as a type; the proof is in proofs/.
 use mathlib.Core.Path.{_≡_}
-use mathlib.Core.Bool.{true, false}
+use mathlib.Core.Bool.{false}
 use mathlib.Core.List.{List}
 use Prim.Native.Nat.{ℕ, _*_, _≤_, _<_}
-use lib.Dec.{ltb}
 use lib.ListN.{length, replicate}
-use Rattle.parity.specs.Lists.{every}
 use Rattle.parity.specs.Match.{allAnswer}
 use Rattle.parity.specs.Claims.{Below}
-use Rattle.router_ranges.specs.Ranges.{Ranges, rangesOf, holds, ruleLevels, bottleInputs, rangesIn}
+use Rattle.router_ranges.specs.Ranges.{Ranges, holds, ruleLevels, bottleInputs, rangesIn}
 
 -- the ranges of f features, every low and every high below q
 pub record Proper (q f : ℕ) (ranges : Ranges) : Type 0 where

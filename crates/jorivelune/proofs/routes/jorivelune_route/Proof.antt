@@ -11,7 +11,7 @@ use Rattle.parity.specs.declared.Shape.{Shape}
 use Rattle.array_memory.specs.Memory.{Memory, withArray}
 use Rattle.array_lookup.specs.Lookups.{firstCall}
 use Rattle.router_ranges.specs.Ranges.{bottleInputs}
-use Rattle.router.specs.Questions.{routeQuestions}
+use Rattle.router_questions.specs.Questions.{routeQuestions}
 use Rattle.router.specs.Routes.{nowhere, destination, routeCall}
 use Rattle.router.specs.Answers.{routedSays}
 use Rattle.router.specs.declared.answer.Routed.{Routed}

@@ -7,7 +7,7 @@ use Rattle.shape.proofs.Calling.{call-refused}
 use Rattle.shape.proofs.Refusals.{answer-taken, answer-refused}
 use Rattle.router_ranges.specs.Ranges.{rangesOf}
 use Rattle.router.specs.Calls.{ruleAtCall}
-use Rattle.router.specs.Questions.{ruleAtQuestions}
+use Rattle.router_questions.specs.Questions.{ruleAtQuestions}
 use Rattle.router.proofs.read.rule_at.Statement.{statement}
 use Rattle.router.proofs.read.rule_at.Tie as tie
 

@@ -12,7 +12,7 @@ use Rattle.array_memory.proofs.RowPlaces.{row-part, part-sized}
 use Rattle.array_questions.proofs.Asked.{RowLies, row-lies}
 use Rattle.router_ranges.specs.Ranges.{rangesOf, rangesIn}
 use Rattle.router.specs.Calls.{ruleAtCall}
-use Rattle.router.proofs.Asked.{RuleAtTaken, rule-at-taken}
+use Rattle.router_questions.proofs.Asked.{RuleAtTaken, rule-at-taken}
 use Rattle.router.proofs.PairLaws.{levels-within}
 use Rattle.router.proofs.read.rule_at_lent.Statement.{statement}
 use Rattle.router.proofs.read.rule_at_lent.Tie as tie

@@ -11,7 +11,7 @@ use Rattle.shape.proofs.Calling.{if-no}
 use Rattle.array_memory.specs.Memory.{withArray}
 use Rattle.array_lookup.specs.Lookups.{firstCall}
 use Rattle.router_ranges.specs.Ranges.{bottleInputs}
-use Rattle.router.specs.Questions.{routeQuestions}
+use Rattle.router_questions.specs.Questions.{routeQuestions}
 use Rattle.router.specs.Routes.{nowhere, destination, routeCall}
 use Rattle.router.proofs.route.route.Statement.{statement}
 use Rattle.router.proofs.route.route.Tie as tie

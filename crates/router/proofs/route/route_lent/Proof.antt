@@ -22,12 +22,12 @@ use Rattle.array_memory.specs.Geometry.{rowMatch}
 use Rattle.array_memory.specs.Memory.{Memory, withArray, noMemory}
 use Rattle.array_lookup.specs.Lookups.{arrayQuestions, firstArguments, firstCall}
 use Rattle.router_ranges.specs.Ranges.{bottleInputs}
-use Rattle.router.specs.Questions.{routeQuestions}
+use Rattle.router_questions.specs.Questions.{routeQuestions}
 use Rattle.router.specs.Routes.{nowhere, destination, routeCall}
 use Rattle.router.specs.Answers.{routedSays}
 use Rattle.router.specs.declared.answer.Routed.{Routed}
 use Rattle.router.specs.declared.answer.Routed.the-variants as routes
-use Rattle.router.proofs.Asked.{RouteTaken, route-taken, route-asks}
+use Rattle.router_questions.proofs.Asked.{RouteTaken, route-taken, route-asks}
 use Rattle.router.proofs.PairLaws.{levels-within, blank, Holds, Pairable, front-fits, front-sized, pairs-ask, pairs-held}
 use Rattle.router.proofs.route.route_lent.Statement.{statement}
 use Rattle.router.proofs.route.route_lent.Tie as tie

@@ -11,7 +11,7 @@ use Rattle.cycle.specs.Calls.{stateOf}
 use Rattle.cycle.specs.Methods.{changing}
 use Rattle.router_ranges.specs.Ranges.{rangesOf}
 use Rattle.router.specs.Calls.{routerOf, withBelts, ruleCall}
-use Rattle.router.specs.Questions.{ruleQuestions}
+use Rattle.router_questions.specs.Questions.{ruleQuestions}
 use Rattle.router.proofs.rule.rule.Statement.{statement}
 use Rattle.router.proofs.rule.rule.Tie as tie
 

@@ -17,7 +17,7 @@ use Rattle.cycle.specs.Calls.{stateOf, programCall}
 use Rattle.cycle.specs.Record.{idle}
 use Rattle.router_ranges.specs.Ranges.{Ranges, rangesOf, ruleLevels}
 use Rattle.router.specs.Calls.{withBelts, ruleCall}
-use Rattle.router.proofs.Asked.{RuleTaken, rule-taken, rule-programs}
+use Rattle.router_questions.proofs.Asked.{RuleTaken, rule-taken, rule-programs}
 use Rattle.router.proofs.PairLaws.{levels-within, blank, Holds, Pairable, front-fits, front-sized, pairs-ask, pairs-held}
 use Rattle.router.proofs.rule.rule_lent.Statement.{statement}
 use Rattle.router.proofs.rule.rule_lent.Tie as tie

@@ -1,4 +1,4 @@
--- `router::questions::check_rule` meets its contract: what rule at asks, 8 on the lows and on the highs, then 19. Assumes nothing.
+-- `router_questions::check_rule` meets its contract: what rule at asks, 8 on the lows and on the highs, then 19. Assumes nothing.
 use mathlib.Core.Path.{refl, ap}
 use mathlib.Core.List.{[], _∷_, _++_}
 use lib.ListN.{length}
@@ -7,10 +7,10 @@ use Rattle.parity.specs.Shape.{levels}
 use Rattle.parity.specs.Questions.{question, levelsQuestion}
 use Rattle.shape.proofs.Refusals.{ask}
 use Rattle.router_ranges.specs.Ranges.{rangesOf}
-use Rattle.router.specs.Questions.{rangesQuestion, ruleAtQuestions}
-use Rattle.router.proofs.Asking.{levels-asked}
-use Rattle.router.proofs.questions.check_rule.Statement.{statement}
-use Rattle.router.proofs.questions.check_rule.Tie as tie
+use Rattle.router_questions.specs.Questions.{rangesQuestion, ruleAtQuestions}
+use Rattle.router_questions.proofs.Asking.{levels-asked}
+use Rattle.router_questions.proofs.check_rule.Statement.{statement}
+use Rattle.router_questions.proofs.check_rule.Tie as tie
 
 abbrev begun : tie.After-check-rule-at → tie.Start
 begun c = c .before .before .before

@@ -1,4 +1,4 @@
--- `router::questions::in_order` meets its contract: what has been gathered and what is left give the whole test's answer. Assumes nothing.
+-- `router_questions::in_order` meets its contract: what has been gathered and what is left give the whole test's answer. Assumes nothing.
 use mathlib.Core.Path.{_≡_, refl, sym, _∙_, ap}
 use mathlib.Core.Bool.{_&&_, and-assoc, and-true}
 use Prim.Native.Nat.{_+_, _-_, _≤_}
@@ -6,8 +6,8 @@ use native.Mathlib.Omega.{arith}
 use lib.Dec.{leb}
 use lib.ListN.{length, getD}
 use Rattle.parity.proofs.Alongside.{alongsideFrom, alongside-next, alongside-ended, alongside-lengths}
-use Rattle.router.proofs.questions.in_order.Statement.{statement}
-use Rattle.router.proofs.questions.in_order.Tie as tie
+use Rattle.router_questions.proofs.in_order.Statement.{statement}
+use Rattle.router_questions.proofs.in_order.Tie as tie
 
 abbrev Inv-loop : tie.InvT-loop
 Inv-loop lows highs all₀ i₀ all i = (i ≤ length lows) × (all && alongsideFrom leb lows highs i ≡ alongsideFrom leb lows highs 0)

@@ -16,7 +16,7 @@ use Rattle.shape.specs.declared.sizes.Checked.{Checked}
 use Rattle.shape.proofs.Refusals.{numbered, shape-asked, sizes-known, ask}
 use Rattle.shape.proofs.Asking.{both-asked}
 use Rattle.array_memory.specs.Lengths.{cellsWanted}
-use Rattle.router.specs.Questions.{featuresQuestion, routerQuestions}
+use Rattle.router_questions.specs.Questions.{featuresQuestion, routerQuestions}
 
 pub lengths-asked :
     (s : Shape) (asked even sized : Checked) (z : Sizes) (result : Bool) (cells : ℕ) (others wants lent wanted : List ℕ)

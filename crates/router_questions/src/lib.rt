@@ -10,7 +10,7 @@ ghost use Rattle.parity.specs.Questions.{firstNo};
 ghost use Rattle.shape.specs.Lent.{was};
 ghost use Rattle.shape.specs.Shapes.{checkedSays, sizesIf};
 ghost use Rattle.router_ranges.specs.Ranges.{rangesOf};
-ghost use Rattle.router.specs.Questions.{ruleAtQuestions, ruleQuestions, routeQuestions};
+ghost use Rattle.router_questions.specs.Questions.{ruleAtQuestions, ruleQuestions, routeQuestions};
 
 // Whether no low is above its high: question 19. No pair ends the loop, so that it is compiled to vector code.
 fn in_order(lows: &[u8], highs: &[u8]) -> bool

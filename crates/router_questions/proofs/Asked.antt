@@ -24,8 +24,8 @@ use Rattle.array_lookup.specs.Lookups.{arrayQuestions, firstArguments}
 use Rattle.router_ranges.specs.Ranges.{Ranges, features, ruleLevels, bottleInputs}
 use Rattle.router_ranges.specs.Claims.{Proper, Bottle}
 use Rattle.router_ranges.proofs.Ranges.{levels-sized, levels-below, inputs-sized, inputs-below}
-use Rattle.router.specs.Questions.{featuresQuestion, routerQuestions, ruleAtArguments, ruleAtQuestions, givenQuestions, ruleQuestions}
-use Rattle.router.specs.Questions.{routeArguments, routeQuestions}
+use Rattle.router_questions.specs.Questions.{featuresQuestion, routerQuestions, ruleAtArguments, ruleAtQuestions, givenQuestions, ruleQuestions}
+use Rattle.router_questions.specs.Questions.{routeArguments, routeQuestions}
 
 -- ---- k is even, and f is the half of it
 

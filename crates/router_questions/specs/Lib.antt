@@ -1,0 +1,2 @@
+-- What a reader has to believe: the router's questions, in their order.
+pub mod Questions
