@@ -29,8 +29,8 @@ use Rattle.router_ranges.specs.Claims.{Proper}
 use Rattle.router.specs.Calls.{Router, routerOf}
 use Rattle.router_questions.proofs.Asked.{RuleTaken}
 use Rattle.router_lists.specs.Run.{RouterCall, plain, rule, routerAfter, runRouter}
-use Rattle.router_lists.specs.Log.{Written, cleared, ruled, other, RouterLog, routerLogOf, rulesTaken, routerTaken, routerArguments, routerLogCall, routerLog}
-use Rattle.router_lists.specs.Log.{lowerCall, lowered}
+use Rattle.router_lists.specs.Log.{Written, cleared, ruled, other, RouterLog, routerLogOf, rulesTaken, routerTaken, routerArguments}
+use Rattle.router_lists.specs.Log.{routerLogCall, routerLog, lowerCall, lowered}
 use Rattle.router_lists.specs.Claims.{LoweredClaim}
 use Rattle.router_lists.proofs.Lowering.{taken-rule, rule-after, lower-state, lower-log}
 
@@ -65,7 +65,9 @@ module _ (s : Shape) where
         row = λ i h. go i h (eqb i j) refl;
       }
     where
-      go : (i : ℕ) → i < s .rows → (b : Bool) → eqb i j ≡ b → Row s (getD (set rules j w) i other) (getD (set written j cells) i []) (getD (set belts j belt) i 0)
+      go :
+          (i : ℕ) → i < s .rows → (b : Bool) → eqb i j ≡ b
+          → Row s (getD (set rules j w) i other) (getD (set written j cells) i []) (getD (set belts j belt) i 0)
       go i h true e =
           let same : i ≡ j = eqb-true i j e in
           rw (

@@ -25,7 +25,7 @@ use Rattle.router.specs.Routes.{Destination, to, nowhere, destination, routeCal
 use Rattle.router_questions.proofs.Asked.{RouteTaken, route-fits, route-asks}
 use Rattle.router_lists.specs.Run.{RouterCall, runRouter}
 use Rattle.router_lists.specs.Log.{Written, cleared, ruled, other, RouterLog, routerLog}
-use Rattle.router_lists.specs.Claims.{ruleHolds, ruleBelt, writtenAt, Trusted, toFirst, firstRule, routed, Routes, reached, RouteClaim, CardClaim}
+use Rattle.router_lists.specs.Claims.{ruleHolds, sends, writtenAt, Trusted, toFirst, firstRule, routed, Routes, reached, RouteClaim, CardClaim}
 use Rattle.router_lists.proofs.Fits.{Row, Fits, fits}
 use Rattle.router_lists.proofs.Searches.{passed-over, found-same}
 use Rattle.router_lists.proofs.Matching.{trusted-match}
@@ -35,11 +35,12 @@ pub halves : (s : Shape) → s .width % 2 ≡ 0 → features s + features s ≡ 
 unfolding features
 halves s e = omega arith
 
--- the belt of a rule that holds something is the one that stands in its row
-held-belt : (s : Shape) (values : List ℕ) (w : Written) (cells : List ℕ) (belt : ℕ) → Row s w cells belt → ruleHolds values w ≡ true → belt ≡ ruleBelt w
-held-belt s values cleared cells belt wrote e = absurd (true≢false (sym e))
-held-belt s values (ruled r) cells belt wrote e = wrote .belt
-held-belt s values other cells belt wrote e = absurd (true≢false (sym e))
+-- a rule that holds something sends it to its row, with the belt that stands there
+held-sends :
+    (s : Shape) (values : List ℕ) (w : Written) (cells : List ℕ) (belt i : ℕ) → Row s w cells belt → ruleHolds values w ≡ true → to i belt ≡ sends i w
+held-sends s values cleared cells belt i wrote e = absurd (true≢false (sym e))
+held-sends s values (ruled r) cells belt i wrote e = ap (to i) (wrote .belt)
+held-sends s values other cells belt i wrote e = absurd (true≢false (sym e))
 
 -- a row up to what was found is one up to the answer
 within-reach : (m found : ℕ) (belts : List ℕ) (j : ℕ) → j < m → j ≤ found → j < reached m (destination belts (rowOrNone m found))
@@ -116,9 +117,8 @@ module _ (s : Shape) (t : Taken s) (even : s .width % 2 ≡ 0) (first : List ℕ
         go true e =
             let p : Fits s st l = fits s t first count calls in
             let below : at < s .rows = ltb-true at (s .rows) e in
-            ap (to at)
-            (ap (λ bytes. getD bytes at 0) (p .belts)
-            ∙ held-belt s values (writtenAt s first calls at) _ _ (p .rows .row at below) (first-passes holding (s .rows) 0 (omega arith)))
+            ap (λ bytes. to at (getD bytes at 0)) (p .belts)
+            ∙ held-sends s values (writtenAt s first calls at) _ _ at (p .rows .row at below) (first-passes holding (s .rows) 0 (omega arith))
         go false e = refl
 
     -- none exactly where no rule holds the bottle
@@ -132,7 +132,10 @@ module _ (s : Shape) (t : Taken s) (even : s .width % 2 ≡ 0) (first : List ℕ
         go true e =
             let below : at < s .rows = ltb-true at (s .rows) e in
             let held : holding at ≡ true = first-passes holding (s .rows) 0 (omega arith) in (
-              λ never. absurd (to≢nowhere at _ never),
+              λ never.
+                  absurd
+                  (to≢nowhere at _
+                  (held-sends s values (writtenAt s first calls at) _ _ at (fits s t first count calls .rows .row at below) held ∙ never)),
               λ fail. absurd (true≢false (sym held ∙ fail at below)),
             )
         go false e =

@@ -42,11 +42,11 @@ ruleHolds values cleared = false
 ruleHolds values (ruled r) = holds (r .ranges) values
 ruleHolds values other = false
 
--- the belt of a rule
-abbrev pub ruleBelt : Written → ℕ
-ruleBelt cleared = 0
-ruleBelt (ruled r) = r .belt
-ruleBelt other = 0
+-- where the rule of row i sends the bottles that it holds
+abbrev pub sends : ℕ → Written → Destination
+sends i cleared = nowhere
+sends i (ruled r) = to i (r .belt)
+sends i other = nowhere
 
 module _ (s : Shape) (belts : List ℕ) (calls : List RouterCall) where
   -- what row i was last written with
@@ -63,11 +63,12 @@ module _ (s : Shape) (belts : List ℕ) (calls : List RouterCall) where
     pub stands : Stands i
     pub line : getD (routerLog s belts calls .array .rows .lines) i 0 ≡ 0
 
-  -- the first row whose rule holds the bottle, with that rule's belt, or none
+  -- where the rule of the row that is found sends a bottle
   abbrev pub toFirst : Found → Destination
-  toFirst (row i) = to i (ruleBelt (writtenAt i))
+  toFirst (row i) = sends i (writtenAt i)
   toFirst none = nowhere
 
+  -- the first row whose rule holds the bottle, with that rule's belt, or none
   abbrev pub firstRule : List ℕ → Destination
   firstRule values = toFirst (rowOrNone (s .rows) (firstFrom (λ i. ruleHolds values (writtenAt i)) (s .rows) 0))
 
