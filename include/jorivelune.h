@@ -18,8 +18,8 @@
 //   totals    (m + 63) / 64  clear, start, steps            the flagged rows of a block of 64 rows
 //   matches   m              steps, lookup                  1 where the row matched the last vector, else 0
 //   belts     m              rule                           the belt of the row's rule
-//   lows      f              the caller, rule_at            the lowest value of a feature that the rule holds, below q
-//   highs     f              the caller, rule_at            the highest value of a feature that the rule holds, below q
+//   lows      f              the caller, rule_at            the lowest value of a feature that the rule holds
+//   highs     f              the caller, rule_at            the highest value of a feature that the rule holds
 //   values    f              the caller                     a bottle's value of a feature, below q
 //   levels    k              the caller                     a level below q: the rule cells of a row
 //   inputs    k              the caller                     an input below q: what a lookup feeds the rule columns
@@ -160,8 +160,8 @@ uint8_t jorivelune_run(struct jorivelune_record *record, struct jorivelune_shape
 
 // Writes a rule to a row: a bottle is held where each of its f values is from the low to the high of that feature. The
 // row becomes what programming it leaves with high in column 2i and q - 1 - low in column 2i + 1 for feature i; the
-// record becomes idle, and the row's belt becomes the rule's. Questions 1 to 5, 18 where k is odd, 6, 7, 8 where a low or
-// a high is not below q, and then 19 where a low is above its high.
+// record becomes idle, and the row's belt becomes the rule's. Questions 1 to 5, 18 where k is odd, 6, 7, 8 where a low
+// or a high is not below q, and then 19 where a low is above its high.
 uint8_t jorivelune_rule(struct jorivelune_record *record, struct jorivelune_shape shape,
                         uint8_t *cells, size_t cells_length,
                         uint8_t *belts, size_t belts_length,
@@ -169,8 +169,8 @@ uint8_t jorivelune_rule(struct jorivelune_record *record, struct jorivelune_shap
                         const uint8_t *highs, size_t highs_length, uint8_t belt);
 
 // The first row whose rule holds the bottle goes to found, m where none does, and its belt to belt, 0 where none does.
-// The row is that of jorivelune_first_match with x in column 2i and q - 1 - x in column 2i + 1 for value x of feature i.
-// Questions 1 to 5, 18, 6, then 8.
+// It is the row of jorivelune_first_match with x in column 2i and q - 1 - x in column 2i + 1 for the value x of feature
+// i. Questions 1 to 5, 18, 6, then 8.
 uint8_t jorivelune_route(struct jorivelune_shape shape, const uint8_t *cells, size_t cells_length,
                          const uint8_t *lines, size_t lines_length,
                          const uint8_t *belts, size_t belts_length,

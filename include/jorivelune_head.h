@@ -8,8 +8,8 @@
 //   if (jorivelune_head_lend(&head, shape, memory, sizeof memory) == JORIVELUNE_TAKEN) ..
 //
 // The caller's own buffers (lows, highs, values, levels, finished, inputs, out) come with their lengths, and question 6
-// refuses a wrong one.
-// NULL stands for no bytes at all, so 6 refuses it; for an answer it says that the answer is not wanted.
+// refuses a wrong one. NULL stands for no bytes at all, so 6 refuses it; for an answer it says that the answer is not
+// wanted.
 #ifndef JORIVELUNE_HEAD_H
 #define JORIVELUNE_HEAD_H
 
@@ -103,8 +103,8 @@ static inline struct jorivelune_part jorivelune_head_cut(uint8_t **memory, size_
 
 // Makes a head of this shape in the memory, which is not written: jorivelune_head_clear makes the fresh array there,
 // and jorivelune_head_start opens a cycle on cells and lines that stand there already. A belt is whatever byte stands
-// there until jorivelune_head_rule writes it. Questions 1 to 5, then 6 where
-// the memory is too short. A refusal leaves the head as it was.
+// there until jorivelune_head_rule writes it. Questions 1 to 5, then 6 where the memory is too short. A refusal leaves
+// the head as it was.
 static inline uint8_t jorivelune_head_lend(struct jorivelune_head *head, struct jorivelune_shape shape,
                                            uint8_t *memory, size_t memory_length)
 {

@@ -13,7 +13,7 @@
     ENTRY(JORIVELUNE_BAD_ROWS, 5, "the number of rows m must be from 1 to 4,096") \
     ENTRY(JORIVELUNE_BAD_LENGTH, 6, "every buffer must have exactly the bytes that the shape asks for") \
     ENTRY(JORIVELUNE_BAD_PLACE, 7, "a row must be below m, and a column below n (rule and check columns, from 0 on)") \
-    ENTRY(JORIVELUNE_BAD_LEVEL, 8, "every level and every input must be below q (rho to the power b)") \
+    ENTRY(JORIVELUNE_BAD_LEVEL, 8, "every level, input, low, high and value must be below q (rho to the power b)") \
     ENTRY(JORIVELUNE_BAD_RECORD, 9, "a cycle must be open, at a lookup that a start and steps on this shape lead to") \
     ENTRY(JORIVELUNE_BAD_JOB_SIZE, 10, "a job must have at most 32,768 bytes") \
     ENTRY(JORIVELUNE_BAD_JOB_VERSION, 11, "a job must start with the byte 1 (text: hexadecimal digits, # comments)") \

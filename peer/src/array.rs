@@ -231,7 +231,7 @@ fn rows<'a>(layout: &Layout, cells: &'a [u8]) -> impl Iterator<Item = &'a [u8]> 
 }
 
 /// One row of the array.
-fn row_of<'a>(layout: &Layout, cells: &'a [u8], row: usize) -> &'a [u8] {
+pub(crate) fn row_of<'a>(layout: &Layout, cells: &'a [u8], row: usize) -> &'a [u8] {
     let start = row * layout.columns();
     &cells[start..start + layout.columns()]
 }

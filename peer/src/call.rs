@@ -9,6 +9,7 @@
 use crate::array;
 use crate::cycle::{self, Cycle};
 use crate::panel::{panel, Panel};
+use crate::router::{self, Route, Rule};
 use crate::shape::{Refusal, Shape};
 use crate::sizes::{sizes, Sizes};
 use crate::state::{Bytes, State};
@@ -20,7 +21,7 @@ macro_rules! calls {
         $(#[$about:meta])*
         $name:ident $({ $($(#[$says:meta])* $argument:ident: $kind:ty,)* })?,
     )*) => {
-        /// One call with its arguments. A `B` is there for the buffer of its
+        /// One call with its arguments. A `B` is there for each buffer of its
         /// own that a call may write: its bytes, a lent slice or a name.
         #[derive(Clone, Debug, PartialEq, Eq)]
         pub enum Call<B> {
@@ -146,6 +147,27 @@ calls! {
         /// What they are copied into.
         out: B,
     },
+    /// Write a belt rule to a row.
+    Rule {
+        /// The row.
+        row: usize,
+        /// The rule.
+        rule: Rule<Vec<u8>>,
+    },
+    /// Find the row and the belt for a bottle.
+    Route {
+        /// The bottle's values.
+        values: Vec<u8>,
+    },
+    /// Copy the belt rule that stands in a row out.
+    RuleAt {
+        /// The row.
+        row: usize,
+        /// What its lows are copied into.
+        lows: B,
+        /// What its highs are copied into.
+        highs: B,
+    },
 }
 
 impl Name {
@@ -158,7 +180,8 @@ impl Name {
             | Name::Start
             | Name::Step
             | Name::Steps
-            | Name::Run => true,
+            | Name::Run
+            | Name::Rule => true,
             Name::Sizes
             | Name::Ask
             | Name::Drift
@@ -167,14 +190,16 @@ impl Name {
             | Name::Panel
             | Name::FirstMatch
             | Name::Sound
-            | Name::Read => false,
+            | Name::Read
+            | Name::Route
+            | Name::RuleAt => false,
         }
     }
 }
 
 impl<B> Call<B> {
-    /// The same call with something else for the buffer of its own.
-    pub fn map<C>(self, change: impl FnOnce(B) -> C) -> Call<C> {
+    /// The same call with something else for each buffer of its own.
+    pub fn map<C>(self, mut change: impl FnMut(B) -> C) -> Call<C> {
         match self {
             Call::Sizes { skip } => Call::Sizes { skip },
             Call::Clear => Call::Clear,
@@ -214,13 +239,20 @@ impl<B> Call<B> {
                 row,
                 out: change(out),
             },
+            Call::Rule { row, rule } => Call::Rule { row, rule },
+            Call::Route { values } => Call::Route { values },
+            Call::RuleAt { row, lows, highs } => Call::RuleAt {
+                row,
+                lows: change(lows),
+                highs: change(highs),
+            },
         }
     }
 }
 
 /// What a call gave: nothing, sizes, a count of matches or of changes, what the
-/// panel is told, a row or none, yes or no; or the number of the first question
-/// that failed.
+/// panel is told, a row or none, yes or no, a row with its belt or none, a belt; or
+/// the number of the first question that failed.
 #[derive(Clone, Copy, Debug, PartialEq, Eq)]
 pub enum Answer {
     /// The call was taken and gives nothing.
@@ -237,6 +269,10 @@ pub enum Answer {
     Row(Option<usize>),
     /// Whether the row is sound.
     Sound(bool),
+    /// Where the bottle goes.
+    Route(Option<Route>),
+    /// The belt of the row.
+    Belt(u8),
     /// The call was refused.
     Refused(u8),
 }
@@ -265,6 +301,7 @@ impl Answer {
 pub fn make<S: Bytes, B: Bytes>(
     shape: Shape,
     state: &mut State<S>,
+    belts: &mut [u8],
     cycle: &mut Cycle,
     call: &mut Call<B>,
 ) -> Answer {
@@ -307,5 +344,14 @@ pub fn make<S: Bytes, B: Bytes>(
         }
         Call::Sound { row } => Answer::of(array::sound(shape, cells, *row), Answer::Sound),
         Call::Read { row, out } => Answer::done(array::read(shape, cells, *row, out)),
+        Call::Rule { row, rule } => keep(router::rule(shape, cells, belts, *row, rule.lend(), now)),
+        Call::Route { values } => {
+            let found = router::route(shape, cells, lines, belts, values);
+            Answer::of(found, Answer::Route)
+        }
+        Call::RuleAt { row, lows, highs } => {
+            let belt = router::rule_at(shape, cells, belts, *row, lows, highs);
+            Answer::of(belt, Answer::Belt)
+        }
     }
 }

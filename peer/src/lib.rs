@@ -1,10 +1,12 @@
-//! A threshold array with check columns, its lookups and its detection cycle.
+//! A threshold array with check columns, its lookups and its detection cycle, and
+//! above it a router of belt rules.
 //!
 //! The array keeps its state in memory lent by the caller: cells (row after
 //! row), one line byte, one counter and one flag byte per row, and one byte per
 //! block of 64 rows, the total of its flagged ones; a cycle record stands beside
-//! it. A row whose line byte is not 0 is dead and matches nothing. Every call
-//! asks its questions first; a refused call changes nothing.
+//! it. A row whose line byte is not 0 is dead and matches nothing. The router has
+//! one belt byte per row of its own. Every call asks its questions first; a
+//! refused call changes nothing.
 //!
 //! From the bottom up:
 //! - [`shape`]: the shape of an array, questions 1 to 5, the refusals;
@@ -16,6 +18,7 @@
 //! - [`mod@panel`]: the totals of flagged rows, and the panel call;
 //! - [`cycle`]: the cycle record, start, step, several steps, and one whole cycle;
 //! - [`mod@array`]: the other calls on an array;
+//! - [`router`]: belt rules as ranges, and the route of a bottle;
 //! - [`call`]: all calls as one enum, and the making of one;
 //! - [`list`]: lists of calls on one array;
 //! - [`mod@job`]: the job program as a function;
@@ -33,6 +36,7 @@ pub mod job;
 pub mod list;
 pub mod matrix;
 pub mod panel;
+pub mod router;
 pub mod shape;
 pub mod sizes;
 pub mod state;
@@ -46,6 +50,7 @@ pub use cycle::{run, start, step, steps, Cycle, Phase};
 pub use job::job;
 pub use list::Array;
 pub use panel::{panel, Panel};
+pub use router::{route, rule, rule_at, Route, Rule};
 pub use shape::{Layout, Refusal, Shape};
 pub use sizes::{sizes, Sizes};
 pub use state::State;

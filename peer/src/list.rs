@@ -5,31 +5,40 @@ use crate::cycle::Cycle;
 use crate::shape::{Refusal, Shape};
 use crate::state::{Bytes, State};
 
-/// One array: its shape, a state of its own, and the record. Each call of a
-/// list gets what the one before left.
+/// One array: its shape, a state of its own, the belts of its router, and the
+/// record. Each call of a list gets what the one before left.
 #[derive(Clone, Debug, PartialEq, Eq)]
 pub struct Array {
     /// The shape.
     pub shape: Shape,
     /// The state.
     pub state: State<Vec<u8>>,
+    /// One belt per row.
+    pub belts: Vec<u8>,
     /// The cycle record.
     pub cycle: Cycle,
 }
 
 impl Array {
-    /// The fresh array.
+    /// The fresh array, all belts 0.
     pub fn fresh(shape: Shape) -> Result<Array, Refusal> {
         Ok(Array {
             shape,
             state: State::fresh(&shape.layout()?),
+            belts: vec![0; shape.rows],
             cycle: Cycle::IDLE,
         })
     }
 
     /// Makes one call.
     pub fn make<B: Bytes>(&mut self, call: &mut Call<B>) -> Answer {
-        make(self.shape, &mut self.state, &mut self.cycle, call)
+        let Array {
+            shape,
+            state,
+            belts,
+            cycle,
+        } = self;
+        make(*shape, state, belts, cycle, call)
     }
 
     /// Starts a cycle that skips so many low digits.

@@ -43,6 +43,10 @@ pub enum Refusal {
     Line = 16,
     /// A row to be committed is not sound.
     Unsound = 17,
+    /// The rule columns do not pair up to features.
+    Features = 18,
+    /// A range of a rule has its low above its high.
+    Range = 19,
 }
 
 impl Refusal {
@@ -214,6 +218,11 @@ impl Layout {
         self.radix().pow((self.digits() - skip) as u32)
     }
 
+    /// q − 1, the highest level.
+    pub fn highest(&self) -> u8 {
+        (self.levels - 1) as u8
+    }
+
     /// r, the number of check columns.
     pub fn checks(&self) -> usize {
         self.checks
@@ -234,9 +243,23 @@ impl Layout {
         self.shape.rows.div_ceil(Shape::BLOCK)
     }
 
+    /// f = k / 2, the number of features of a rule, where k is even.
+    pub fn features(&self) -> usize {
+        self.shape.width / 2
+    }
+
     /// The rule columns of the parity-check matrix, in order.
     pub fn rules(&self) -> &'static [u8] {
         self.rules
+    }
+
+    /// Question 18: every feature has two rule columns.
+    pub(crate) fn ask_features(&self) -> Result<(), Refusal> {
+        if self.width().is_multiple_of(2) {
+            Ok(())
+        } else {
+            Err(Refusal::Features)
+        }
     }
 
     /// Question 15 for a number of low digits to skip.
@@ -290,6 +313,15 @@ impl Layout {
             Ok(())
         } else {
             Err(Refusal::Line)
+        }
+    }
+
+    /// Question 19 for the ranges of a rule.
+    pub(crate) fn ask_ranges(&self, lows: &[u8], highs: &[u8]) -> Result<(), Refusal> {
+        if lows.iter().zip(highs).all(|(low, high)| low <= high) {
+            Ok(())
+        } else {
+            Err(Refusal::Range)
         }
     }
 }

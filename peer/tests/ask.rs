@@ -5,7 +5,7 @@
 use peer::testing::arrays::{any_array, started_array, Make, BOTH};
 use peer::testing::asks::{example, Example};
 use peer::testing::lists::list;
-use peer::testing::log::{Log, LoggedCycle};
+use peer::testing::log::{Last, Log, LoggedCycle};
 use peer::testing::naive::calls::IDLE;
 use peer::testing::naive::spec::{questions, Spec};
 use peer::testing::random::Random;
@@ -107,6 +107,7 @@ fn with_cells_alone(shape: Shape, cells: usize) -> Array {
     array.state.counters.clear();
     array.state.flags.clear();
     array.state.totals.clear();
+    array.belts.clear();
     array
 }
 
@@ -492,6 +493,7 @@ fn written_in_log(before: &Log, row: usize, cells: &[u8]) -> Log {
     let mut log = before.clone();
     log.written[row] = cells.to_vec();
     log.standing[row] = cells.to_vec();
+    log.last[row] = Last::Plain;
     log.cycle = LoggedCycle::None;
     log.count = 0;
     log.skip = 0;

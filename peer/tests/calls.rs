@@ -10,12 +10,13 @@ use peer::testing::naive::spec::{questions, Spec};
 use peer::testing::random::Random;
 use peer::testing::records::forged;
 use peer::testing::rows::{any_row, sound_row};
+use peer::testing::rules::{any_bottle, any_rule, bottle_for, rule_of, spoil_rule, Rules};
 use peer::testing::settings;
 use peer::testing::shapes::{any_shape, small_shape};
 use peer::testing::skips::Skips;
 use peer::testing::steps::{left, some_most, Steps};
 use peer::testing::tally::Tally;
-use peer::{match_byte, Answer, Array, Cycle, Name, Shape, State};
+use peer::{match_byte, Answer, Array, Cycle, Layout, Name, Rule, Shape, State};
 
 /// The sizes that arguments are drawn for.
 struct Sizes {
@@ -57,13 +58,15 @@ impl Sizes {
 /// What any call may be given, drawn beforehand.
 struct Given {
     /// One buffer for each [`Own`].
-    own: [Vec<u8>; 3],
+    own: [Vec<u8>; 5],
     row: usize,
     column: usize,
     level: u8,
     line: u8,
     levels: Vec<u8>,
     finished: Vec<u8>,
+    rule: Rule<Vec<u8>>,
+    values: Vec<u8>,
     skip: usize,
     most: usize,
 }
@@ -71,7 +74,7 @@ struct Given {
 impl Draw for Given {
     type Buffer = Vec<u8>;
 
-    fn rule(&mut self) -> (usize, Vec<u8>) {
+    fn levels(&mut self) -> (usize, Vec<u8>) {
         (self.row, self.levels.clone())
     }
 
@@ -97,6 +100,14 @@ impl Draw for Given {
 
     fn inputs(&mut self) -> Vec<u8> {
         self.levels.clone()
+    }
+
+    fn rule(&mut self) -> Rule<Vec<u8>> {
+        self.rule.clone()
+    }
+
+    fn values(&mut self) -> Vec<u8> {
+        self.values.clone()
     }
 
     fn skip(&mut self) -> usize {
@@ -127,9 +138,12 @@ fn some_state(random: &mut Random, spec: Option<&Spec>, sizes: &Sizes) -> State<
     }
 }
 
-/// Arguments mostly in range, for an array with the record.
-fn given(random: &mut Random, shape: Shape, sizes: &Sizes, cycle: Cycle) -> Given {
-    let own = [sizes.rows, sizes.width, sizes.columns].map(|wanted| some_bytes(random, wanted));
+/// Arguments mostly in range, for an array with the cells and the record.
+fn given(random: &mut Random, array: &Array, sizes: &Sizes) -> Given {
+    let &Array { shape, cycle, .. } = array;
+    let features = sizes.width / 2;
+    let own = [sizes.rows, sizes.width, sizes.columns, features, features];
+    let own = own.map(|wanted| some_bytes(random, wanted));
     let length = some_length(random, sizes.width);
     let bound = match random.below(10) {
         0 => 256,
@@ -152,6 +166,8 @@ fn given(random: &mut Random, shape: Shape, sizes: &Sizes, cycle: Cycle) -> Give
         },
         levels: random.levels(bound, length),
         finished: some_finished(random, shape, sizes),
+        rule: some_rule(random, shape),
+        values: some_values(random, shape, &array.state.cells),
         skip: some_number(random, sizes.digits),
         most: some_most(random, left(shape, cycle), ROW_STEPS / sizes.rows),
     }
@@ -195,6 +211,39 @@ fn some_finished(random: &mut Random, shape: Shape, sizes: &Sizes) -> Vec<u8> {
     };
     finished.resize(some_length(random, sizes.columns), 0);
     finished
+}
+
+/// A rule for a good shape, now and then with some things wrong in it; for a bad
+/// shape one for another.
+fn some_rule(random: &mut Random, shape: Shape) -> Rule<Vec<u8>> {
+    let mut rule = any_rule(random, &layout_or_other(shape));
+    for _ in 0..random.below(6).saturating_sub(3) {
+        spoil_rule(random, &mut rule);
+    }
+    rule
+}
+
+/// The layout of a good shape, and a small one for a bad shape.
+fn layout_or_other(shape: Shape) -> Layout {
+    let other = || Shape::new(2, 3, 1, 4, 3).layout().expect("a good shape");
+    shape.layout().unwrap_or_else(|_| other())
+}
+
+/// A bottle, often for a row of the cells; now and then with a value too many or
+/// too few, or with one that is too high.
+fn some_values(random: &mut Random, shape: Shape, cells: &[u8]) -> Vec<u8> {
+    let layout = layout_or_other(shape);
+    let row = random.below(layout.rows());
+    let mut values = match cells.chunks_exact(layout.columns()).nth(row) {
+        Some(row) => bottle_for(random, &layout, &rule_of(&layout, row)),
+        None => any_bottle(random, &layout),
+    };
+    values.resize(some_length(random, values.len()), 0);
+    if random.one_in(8) && !values.is_empty() {
+        let feature = random.below(values.len());
+        values[feature] = random.byte();
+    }
+    values
 }
 
 /// Sound rows, a few of them with a cell changed.
@@ -243,13 +292,14 @@ fn some_change(random: &mut Random, record: Cycle, sizes: &Sizes) -> Cycle {
 }
 
 /// What the calls were answered, what they did with skipped digits, what lines
-/// they were lent, and what was seen of several steps.
+/// they were lent, and what was seen of several steps and of belt rules.
 #[derive(Debug, Default)]
 struct Seen {
     tally: Tally,
     skips: Skips,
     lines: Lines,
     steps: Steps,
+    rules: Rules,
 }
 
 /// Makes a call by this build and by the definitions, and compares.
@@ -262,9 +312,10 @@ fn compare(random: &mut Random, shape: Shape, name: Name, seen: &mut Seen) {
     let mut ours = Array {
         shape,
         state: some_state(random, spec, &sizes),
+        belts: some_bytes(random, sizes.rows),
         cycle,
     };
-    let mut call = draw::call(name, &mut given(random, shape, &sizes, cycle));
+    let mut call = draw::call(name, &mut given(random, &ours, &sizes));
     let before = (ours.clone(), call.clone());
     let (mut plain, mut plain_call) = before.clone();
     let answer = ours.make(&mut call);
@@ -277,10 +328,14 @@ fn compare(random: &mut Random, shape: Shape, name: Name, seen: &mut Seen) {
     seen.tally.add(name, answer);
     seen.skips.add(name, answer, cycle, ours.cycle);
     let State {
-        lines, counters, ..
+        cells,
+        lines,
+        counters,
+        ..
     } = &before.0.state;
     seen.lines.add(name, answer, cycle, ours.cycle, lines);
     seen.steps.add(shape, &call, answer, cycle, counters);
+    seen.rules.add(shape, &call, answer, cycle, cells, lines);
     if matches!(name, Name::Step | Name::Steps) {
         seen.skips.add_forged(answer, record, cycle);
     }
@@ -310,6 +365,7 @@ fn the_calls_do_what_the_definitions_say() {
     seen.skips.assert_each(8);
     seen.lines.assert_each(8);
     seen.steps.assert_each(5);
+    seen.rules.assert_each(20);
 }
 
 /// How many rows the steps of one call look at, at most.

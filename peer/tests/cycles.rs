@@ -45,6 +45,7 @@ impl Stepped {
             array: Array {
                 shape: spec.shape,
                 state,
+                belts: random.bytes(rows),
                 cycle: Cycle::IDLE,
             },
             matches: random.bytes(rows),

@@ -48,8 +48,10 @@ struct Seen {
     ended_changed: usize,
     /// Verdicts that still hold after a later call.
     later: usize,
-    /// Verdicts after a commit that was taken, without a clear between.
+    /// Verdicts after a commit that was taken, and after a belt rule, without a
+    /// clear between.
     committed: usize,
+    ruled: usize,
     /// Verdicts after a cycle that ended by a call of several steps, and such calls
     /// that left a cycle open which they found before its opening.
     by_several: usize,
@@ -90,6 +92,7 @@ fn check_panel(array: &Array, seen: &mut Seen) {
 fn check(log: &Log, array: &Array, seen: &mut Seen) {
     assert_eq!(array.state.cells, log.standing.concat());
     assert_eq!(array.state.lines, log.lines);
+    assert_eq!(array.belts, log.belts);
     let phase = match log.cycle {
         LoggedCycle::None => Phase::Idle,
         LoggedCycle::Open => Phase::Open,
@@ -160,7 +163,7 @@ impl Verdicts {
 fn run(shape: Shape, calls: Vec<Call<Vec<u8>>>, seen: &mut Seen) {
     let mut log = Log::new(shape);
     let mut array = Array::fresh(shape).expect("a good shape");
-    let mut committed = false;
+    let (mut committed, mut ruled) = (false, false);
     seen.asks.begin_list();
     check(&log, &array, seen);
     for mut call in calls {
@@ -180,6 +183,7 @@ fn run(shape: Shape, calls: Vec<Call<Vec<u8>>>, seen: &mut Seen) {
             (true, true) => {
                 seen.count_cycle(&log, &array);
                 seen.committed += usize::from(committed);
+                seen.ruled += usize::from(ruled);
                 seen.by_several += usize::from(several);
             }
             (true, false) => seen.ended_changed += 1,
@@ -187,8 +191,9 @@ fn run(shape: Shape, calls: Vec<Call<Vec<u8>>>, seen: &mut Seen) {
             (false, false) => {}
         }
         match call.name() {
-            Name::Clear => committed = false,
+            Name::Clear => (committed, ruled) = (false, false),
             Name::Commit => committed |= answer == Answer::Done,
+            Name::Rule => ruled |= answer == Answer::Done,
             _ => {}
         }
     }
@@ -216,7 +221,7 @@ fn demand_3_holds_on_random_lists() {
     }
     assert!(seen.coarse.low > 500 && seen.coarse.more_below > 300);
     assert!(seen.only_marked > 100 && seen.ended_changed > 100);
-    assert!(seen.later > 1000 && seen.committed > 1000);
+    assert!(seen.later > 1000 && seen.committed > 1000 && seen.ruled > 1000);
     assert!(seen.by_several > 1000 && seen.begun_by_several > 500);
     assert!(seen.refused > 1000 && seen.refused_starts > 500);
     seen.asks.assert_each(50);

@@ -136,6 +136,27 @@ fn another_width_is_found_in_each_text() {
     );
 }
 
+/// A byte that is answered, one that is given, and bytes with a length.
+#[test]
+fn another_kind_of_byte_is_found_in_each_text() {
+    let words = "belt: uint8_t * and belt: uint8_t";
+    finds(Text::Header, "uint8_t *belt", "uint8_t belt", words);
+    finds(Text::Bindings, "belt: *mut u8", "belt: u8", words);
+    let words = "belt: uint8_t and belt: uint8_t *";
+    finds(Text::Calls(1), "belt: &mut u8", "belt: u8", words);
+    let words = "jorivelune_route in the library and the header: 5 and 4 parameters";
+    finds(Text::Calls(1), "belt: &mut u8", "belt: &mut [u8]", words);
+    let words = "belt: size_t * and belt: uint8_t *";
+    finds(Text::Calls(1), "belt: &mut u8", "belt: &mut usize", words);
+    let from = "? &unread : found,";
+    finds(
+        Text::Head,
+        from,
+        "? &unread : belt,",
+        "jorivelune_route: called with",
+    );
+}
+
 #[test]
 fn another_order_or_number_of_parameters_is_found() {
     finds(

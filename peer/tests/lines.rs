@@ -9,7 +9,7 @@ use peer::testing::naive::panel::counts;
 use peer::testing::naive::spec::questions;
 use peer::testing::random::Random;
 use peer::testing::settings;
-use peer::testing::shapes::{asked, block_shape, small_shape};
+use peer::testing::shapes::{asked, block_shape, even, small_shape};
 use peer::{Answer, Array, Call, Cycle, Name, Phase, Shape};
 
 /// Three binary digits and two rows.
@@ -75,6 +75,7 @@ fn check_order(make: Make, number: u8, shape: Shape, length: usize, row: usize, 
     array.state.counters.clear();
     array.state.flags.clear();
     array.state.totals.clear();
+    array.belts.clear();
     let wanted = match number {
         0 if length != 2 => 6,
         0 if row >= 2 => 7,
@@ -128,7 +129,7 @@ fn check_length(random: &mut Random, shape: Shape, name: Name, length: usize) {
 fn the_length_of_lines_is_asked_where_they_are_lent() {
     let mut random = settings::random(33);
     for _ in 0..100 {
-        let shape = small_shape(&mut random);
+        let shape = even(small_shape(&mut random));
         for &name in Name::ALL {
             for length in wrong_lengths(shape.rows) {
                 check_length(&mut random, shape, name, length);

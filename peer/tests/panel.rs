@@ -9,7 +9,7 @@ use peer::testing::naive::spec::questions;
 use peer::testing::panels::{foreign, Cases, EXAMPLE, WITH_TOTALS};
 use peer::testing::random::Random;
 use peer::testing::settings;
-use peer::testing::shapes::{block_shape, short_coarse_shape, BLOCK_EDGES};
+use peer::testing::shapes::{block_shape, even, short_coarse_shape, BLOCK_EDGES};
 use peer::{panel, Answer, Array, Call, Cycle, Name, Panel, Phase, Shape, State};
 
 /// Two levels, one rule column and one check column.
@@ -34,6 +34,7 @@ fn opened(random: &mut Random, shape: Shape) -> Array {
     Array {
         shape,
         state,
+        belts: random.bytes(shape.rows),
         cycle: Cycle::open(0),
     }
 }
@@ -97,7 +98,7 @@ fn check_length(random: &mut Random, shape: Shape, name: Name, length: usize) {
 #[test]
 fn the_length_of_totals_is_asked_where_they_are_lent() {
     let mut random = settings::random(22);
-    for shape in BLOCK_EDGES.map(narrow) {
+    for shape in BLOCK_EDGES.map(narrow).map(even) {
         for &name in Name::ALL {
             for length in wrong_lengths(shape.rows.div_ceil(64)) {
                 check_length(&mut random, shape, name, length);

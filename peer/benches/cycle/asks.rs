@@ -9,8 +9,7 @@ use peer::testing::records::{cycle_of, words_of};
 use peer::{Cycle, Shape};
 
 use crate::rules::Rules;
-use crate::small_table::Numbers;
-use crate::{begin_line, drifted, in_c, least, micros, print_numbers, print_times, proved_calls};
+use crate::{begin_line, drifted, in_c, least, print_numbers, print_times, proved_calls, ratios};
 use crate::{timed_each, Bench, Build, Times, PIECE};
 
 /// By what its lines are chosen.
@@ -41,10 +40,6 @@ fn lines(shape: Shape) {
         print_numbers(2, ratios(times, program));
         println!();
     }
-}
-
-fn ratios(times: Times, other: Times) -> Numbers {
-    [0, 1, 2].map(|build| Some(micros(times[build]?) / micros(other[build]?)))
 }
 
 /// The least times of programming, ask and commit of all rows.

@@ -1,7 +1,7 @@
 //! The loops in C, where they were compiled.
 
 use peer::testing::records::Words;
-use peer::{Layout, Shape, State};
+use peer::{Layout, Route, Rule, Shape, State};
 
 /// Whether they were.
 pub const THERE: bool = cfg!(in_c);
@@ -171,6 +171,24 @@ linked! {
         row: usize,
         finished: *const u8,
     ) -> u8;
+    fn loops_rule(
+        array: *const Array,
+        record: *mut Words,
+        cells: *mut u8,
+        belts: *mut u8,
+        row: usize,
+        lows: *const u8,
+        highs: *const u8,
+        belt: u8,
+    );
+    fn loops_route(
+        array: *const Array,
+        cells: *const u8,
+        lines: *const u8,
+        belts: *const u8,
+        values: *const u8,
+        belt: *mut u8,
+    ) -> usize;
 }
 
 pub fn clear(array: &Array, words: &mut Words, state: State<&mut [u8]>) {
@@ -304,6 +322,46 @@ pub fn lookup(
 pub fn first_match(array: &Array, cells: &[u8], lines: &[u8], inputs: &[u8]) -> usize {
     assert!(array.fits_lookup(cells, lines, inputs));
     unsafe { loops_first_match(array, cells.as_ptr(), lines.as_ptr(), inputs.as_ptr()) }
+}
+
+pub fn rule(
+    array: &Array,
+    words: &mut Words,
+    cells: &mut [u8],
+    belts: &mut [u8],
+    row: usize,
+    rule: Rule<&[u8]>,
+) {
+    let Rule { lows, highs, belt } = rule;
+    assert!(array.fits_row(cells, row) && belts.len() == array.rows);
+    assert!(2 * lows.len() == array.width && 2 * highs.len() == array.width);
+    let (cells, belts) = (cells.as_mut_ptr(), belts.as_mut_ptr());
+    let (lows, highs) = (lows.as_ptr(), highs.as_ptr());
+    unsafe { loops_rule(array, words, cells, belts, row, lows, highs, belt) }
+}
+
+/// Where a bottle goes.
+pub fn route(
+    array: &Array,
+    cells: &[u8],
+    lines: &[u8],
+    belts: &[u8],
+    values: &[u8],
+) -> Option<Route> {
+    assert!(cells.len() == array.cells() && lines.len() == array.rows);
+    assert!(belts.len() == array.rows && 2 * values.len() == array.width);
+    let mut belt = 0;
+    let row = unsafe {
+        loops_route(
+            array,
+            cells.as_ptr(),
+            lines.as_ptr(),
+            belts.as_ptr(),
+            values.as_ptr(),
+            &mut belt,
+        )
+    };
+    (row < array.rows).then_some(Route { row, belt })
 }
 
 pub fn panel(array: &Array, flags: &[u8], totals: &[u8]) -> Told {

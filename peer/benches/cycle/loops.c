@@ -1,11 +1,12 @@
 // Clear, program, ask, commit, start, step, several steps, task lookup, first
-// match and the panel as plain loops in C, to compare speed with, and a full
-// reading of the flags beside the panel.
+// match, belt rule, route and the panel as plain loops in C, to compare speed
+// with, and a full reading of the flags beside the panel.
 //
 // A program in C would work out sizes and columns once, when it sets the array
 // up, and would trust its own buffers. So these leave out:
 // - questions 1 to 6, questions 7 and 8 of programming, ask and commit, question
 //   15 of the start, and question 8 of the lookups; a commit asks 17;
+// - questions 7, 8, 18 and 19 of belt rules and routes;
 // - of question 9, whether the count is that of the place; a step asks that the
 //   cycle is open and that check, digit, column and factor are those of an
 //   opening or of a vector of the schedule, and so do several, at the first;
@@ -371,13 +372,11 @@ static void add_digits(const struct array *array, const uint8_t *row,
     }
 }
 
-// The row becomes k levels and their check cells.
-static void finish(const struct array *array, const uint8_t *restrict levels,
-                   uint8_t *restrict row)
+// The check cells of a row that holds k levels.
+static void encode(const struct array *array, uint8_t *row)
 {
     uint16_t sums[8][8] = {{0}};
     uint8_t radix = (uint8_t)array->radix;
-    memcpy(row, levels, array->width);
     add_digits(array, row, array->width, sums);
     for (size_t l = 0; l < array->checks; l++) {
         unsigned level = 0;
@@ -385,6 +384,14 @@ static void finish(const struct array *array, const uint8_t *restrict levels,
             level = level * radix + (radix - sums[l][s] % radix) % radix;
         row[array->width + l] = (uint8_t)level;
     }
+}
+
+// The row becomes k levels and their check cells.
+static void finish(const struct array *array, const uint8_t *restrict levels,
+                   uint8_t *restrict row)
+{
+    memcpy(row, levels, array->width);
+    encode(array, row);
 }
 
 // Whether each digit of a row of n levels sums to 0 over each check.
@@ -432,4 +439,41 @@ uint8_t loops_commit(const struct array *array, struct record *record,
     memcpy(cells + row * array->columns, finished, array->columns);
     *record = idle;
     return 0;
+}
+
+// What the ranges of a rule, or a bottle's values, bring into the rule columns.
+static void fill(const struct array *array, const uint8_t *restrict lows,
+                 const uint8_t *restrict highs, uint8_t *restrict columns)
+{
+    uint8_t top = (uint8_t)(array->powers[array->digits] - 1);
+    for (size_t i = 0; i < array->width / 2; i++) {
+        columns[2 * i] = highs[i];
+        columns[2 * i + 1] = (uint8_t)(top - lows[i]);
+    }
+}
+
+// The row takes a rule and its check cells, and the rule's belt.
+void loops_rule(const struct array *array, struct record *record,
+                uint8_t *restrict cells, uint8_t *restrict belts, size_t row,
+                const uint8_t *restrict lows, const uint8_t *restrict highs,
+                uint8_t belt)
+{
+    uint8_t *cell = cells + row * array->columns;
+    fill(array, lows, highs, cell);
+    encode(array, cell);
+    belts[row] = belt;
+    *record = idle;
+}
+
+// The first row that matches a bottle, the number of rows where none does, and
+// its belt.
+size_t loops_route(const struct array *array, const uint8_t *cells,
+                   const uint8_t *lines, const uint8_t *belts,
+                   const uint8_t *values, uint8_t *belt)
+{
+    uint8_t inputs[255];
+    fill(array, values, values, inputs);
+    size_t row = loops_first_match(array, cells, lines, inputs);
+    *belt = row < array->rows ? belts[row] : 0;
+    return row;
 }

@@ -5,7 +5,8 @@
 //! piece the least time of several runs counts. Words given after `--` choose
 //! the lines whose title has one of them. The works are cycles, programming, ask
 //! and commit of the same rows, a belt change (a clear and the programming of
-//! every row), task lookups and first matches. At the end a coarse cycle is timed
+//! every row), task lookups and first matches, and belt rules and routes beside
+//! programming and first match. At the end a coarse cycle is timed
 //! beside the one of all digits, the panel beside a full reading of the flags, and
 //! calls of several steps and of a whole cycle beside single steps.
 
@@ -17,6 +18,7 @@ mod lookups;
 mod panel;
 #[path = "../../tests/proved_calls/mod.rs"]
 mod proved_calls;
+mod router;
 mod rules;
 mod several;
 mod small_table;
@@ -65,6 +67,7 @@ struct Bench {
     words: Words,
     state: State<Vec<u8>>,
     matches: Vec<u8>,
+    belts: Vec<u8>,
 }
 
 impl Bench {
@@ -74,6 +77,7 @@ impl Bench {
             words: words_of(Cycle::IDLE),
             state: State::fresh(&shape.layout().expect("a good shape")),
             matches: vec![0; shape.rows],
+            belts: vec![0; shape.rows],
         }
     }
 
@@ -85,6 +89,7 @@ impl Bench {
             buffer.copy_from_slice(other);
         }
         self.matches.copy_from_slice(&other.matches);
+        self.belts.copy_from_slice(&other.belts);
     }
 }
 
@@ -159,6 +164,9 @@ fn main() {
         for lookup in [Lookup::Task, Lookup::First] {
             line(lookup.title(), shape, Work::Lookups(lookup));
         }
+    }
+    if chosen(router::TITLE) {
+        router::all_lines();
     }
     tables(largest);
 }
@@ -238,6 +246,11 @@ fn print_numbers(places: usize, numbers: Numbers) {
         print!(" {}", cell(9, places, number));
     }
     print!(" |");
+}
+
+/// What part of other times these are.
+fn ratios(times: Times, other: Times) -> Numbers {
+    [0, 1, 2].map(|build| Some(micros(times[build]?) / micros(other[build]?)))
 }
 
 /// Whether the words of the command line choose the title.
@@ -372,6 +385,7 @@ fn proved_steps(shape: Shape, work: Steps, bench: &mut Bench) -> Vec<Duration> {
         words,
         state,
         matches,
+        ..
     } = bench;
     let mut number = 0;
     let mut pieces = timed(1, |_| {
@@ -408,6 +422,7 @@ fn c_steps(shape: Shape, work: Steps, bench: &mut Bench) -> Vec<Duration> {
         words,
         state,
         matches,
+        ..
     } = bench;
     let array = in_c::Array::new(shape);
     let mut pieces = timed(1, |_| in_c::start(&array, words, work.skip, state.lend()));

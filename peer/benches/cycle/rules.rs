@@ -1,4 +1,4 @@
-//! A rule for each row, and the programming of all of them, one call for each.
+//! The levels for each row, and the programming of all of them, one call for each.
 
 use std::time::Duration;
 
@@ -16,12 +16,15 @@ pub struct Rules {
 }
 
 impl Rules {
+    pub fn new(shape: Shape, levels: Vec<u8>) -> Rules {
+        assert_eq!(levels.len(), shape.rows * shape.width);
+        Rules { shape, levels }
+    }
+
     pub fn drawn(random: &mut Random, shape: Shape) -> Rules {
         let layout = shape.layout().expect("a good shape");
-        Rules {
-            shape,
-            levels: random.levels(layout.levels(), shape.rows * shape.width),
-        }
+        let levels = random.levels(layout.levels(), shape.rows * shape.width);
+        Rules::new(shape, levels)
     }
 
     /// Each row with its levels.

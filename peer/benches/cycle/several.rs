@@ -186,6 +186,7 @@ impl Work {
             words,
             state,
             matches,
+            ..
         } = bench;
         let (shape, skip) = (self.shape, self.steps.skip);
         let mut number = 0;
@@ -212,6 +213,7 @@ impl Work {
             words,
             state,
             matches,
+            ..
         } = bench;
         let (shape, skip) = (self.shape, self.steps.skip);
         let mut cycle = cycle_of(words);
@@ -242,6 +244,7 @@ impl Work {
             words,
             state,
             matches,
+            ..
         } = bench;
         let array = in_c::Array::new(self.shape);
         let mut held = vec![0; self.shape.rows];

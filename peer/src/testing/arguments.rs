@@ -1,6 +1,7 @@
 //! The arguments of a call by kind, to be changed, where it has them.
 
 use crate::call::Call;
+use crate::router::Rule;
 
 impl<B> Call<B> {
     /// The row.
@@ -12,7 +13,9 @@ impl<B> Call<B> {
             | Call::Drift { row, .. }
             | Call::Line { row, .. }
             | Call::Sound { row }
-            | Call::Read { row, .. } => Some(row),
+            | Call::Read { row, .. }
+            | Call::Rule { row, .. }
+            | Call::RuleAt { row, .. } => Some(row),
             _ => None,
         }
     }
@@ -57,12 +60,22 @@ impl<B> Call<B> {
         }
     }
 
-    /// The levels of a rule, the cells of a finished row, or the inputs of a lookup.
+    /// The belt rule.
+    pub fn rule_mut(&mut self) -> Option<&mut Rule<Vec<u8>>> {
+        match self {
+            Call::Rule { rule, .. } => Some(rule),
+            _ => None,
+        }
+    }
+
+    /// The levels of a row, the cells of a finished one, the inputs of a lookup, or
+    /// the values of a bottle.
     pub fn levels_mut(&mut self) -> Option<&mut Vec<u8>> {
         match self {
             Call::Program { levels, .. } | Call::Ask { levels, .. } => Some(levels),
             Call::Commit { finished, .. } => Some(finished),
             Call::Lookup { inputs, .. } | Call::FirstMatch { inputs } => Some(inputs),
+            Call::Route { values } => Some(values),
             _ => None,
         }
     }

@@ -36,6 +36,7 @@ pub fn any_array(random: &mut Random, shape: Shape) -> Array {
             flags,
             totals,
         },
+        belts: random.bytes(shape.rows),
         cycle: schedule.record(count),
     }
 }

@@ -2,19 +2,21 @@
 //! which its arguments are drawn.
 
 use crate::call::{Call, Name};
+use crate::router::Rule;
 use crate::shape::Layout;
 use crate::testing::lent::Own;
 use crate::testing::lines::settable;
 use crate::testing::random::Random;
 use crate::testing::rows::sound_row;
+use crate::testing::rules::{any_bottle, any_rule};
 
 /// Where the arguments of a call come from.
 pub trait Draw {
     /// What stands for a buffer of the call's own.
     type Buffer;
 
-    /// A row and the levels of a rule for it.
-    fn rule(&mut self) -> (usize, Vec<u8>);
+    /// A row and the levels for it.
+    fn levels(&mut self) -> (usize, Vec<u8>);
     /// A finished row for a commit.
     fn finished(&mut self) -> Vec<u8>;
     /// A row.
@@ -27,6 +29,10 @@ pub trait Draw {
     fn line(&mut self) -> u8;
     /// Inputs of a lookup.
     fn inputs(&mut self) -> Vec<u8>;
+    /// A belt rule.
+    fn rule(&mut self) -> Rule<Vec<u8>>;
+    /// A bottle's values.
+    fn values(&mut self) -> Vec<u8>;
     /// The number of low digits that a cycle skips.
     fn skip(&mut self) -> usize;
     /// The largest number of steps.
@@ -41,11 +47,11 @@ pub fn call<D: Draw>(name: Name, draw: &mut D) -> Call<D::Buffer> {
         Name::Sizes => Call::Sizes { skip: draw.skip() },
         Name::Clear => Call::Clear,
         Name::Program => {
-            let (row, levels) = draw.rule();
+            let (row, levels) = draw.levels();
             Call::Program { row, levels }
         }
         Name::Ask => {
-            let (row, levels) = draw.rule();
+            let (row, levels) = draw.levels();
             Call::Ask {
                 row,
                 levels,
@@ -90,6 +96,18 @@ pub fn call<D: Draw>(name: Name, draw: &mut D) -> Call<D::Buffer> {
             row: draw.row(),
             out: draw.buffer(Own::Out),
         },
+        Name::Rule => Call::Rule {
+            row: draw.row(),
+            rule: draw.rule(),
+        },
+        Name::Route => Call::Route {
+            values: draw.values(),
+        },
+        Name::RuleAt => Call::RuleAt {
+            row: draw.row(),
+            lows: draw.buffer(Own::Lows),
+            highs: draw.buffer(Own::Highs),
+        },
     }
 }
 
@@ -104,10 +122,10 @@ pub struct Right<'a> {
 impl Draw for Right<'_> {
     type Buffer = Own;
 
-    fn rule(&mut self) -> (usize, Vec<u8>) {
+    fn levels(&mut self) -> (usize, Vec<u8>) {
         let levels = self.layout.levels();
-        let rule = self.random.levels(levels, self.layout.width());
-        (self.row(), rule)
+        let levels = self.random.levels(levels, self.layout.width());
+        (self.row(), levels)
     }
 
     fn finished(&mut self) -> Vec<u8> {
@@ -135,6 +153,14 @@ impl Draw for Right<'_> {
         let levels = self.layout.levels();
         let bound = self.random.pick(&[2, 3, levels]).min(levels);
         self.random.levels(bound, self.layout.width())
+    }
+
+    fn rule(&mut self) -> Rule<Vec<u8>> {
+        any_rule(self.random, self.layout)
+    }
+
+    fn values(&mut self) -> Vec<u8> {
+        any_bottle(self.random, self.layout)
     }
 
     fn skip(&mut self) -> usize {

@@ -44,6 +44,15 @@ impl Guarded {
         self.length = length;
     }
 
+    /// So many bytes from a place of the longest part on, whatever is lent.
+    ///
+    /// # Panics
+    ///
+    /// If there are not so many.
+    pub fn at(&self, place: usize, length: usize) -> &[u8] {
+        &self.bytes[self.start..][place..place + length]
+    }
+
     /// Where two buffers that differ do so first, counted from the start of the
     /// part that is lent, and the two bytes.
     pub fn difference(&self, other: &Guarded) -> String {

@@ -1,8 +1,8 @@
-//! All that may be lent to a call: the state, and the buffers of which a call
-//! may have one as its own.
+//! All that may be lent to a call: the state, the buffers of which a call may have
+//! some as its own, and the belts.
 
 use std::array;
-use std::iter::Chain;
+use std::iter::{once, Chain, Once};
 
 use crate::shape::Layout;
 use crate::state::State;
@@ -16,9 +16,13 @@ pub enum Own {
     Out,
     /// The finished row of an ask.
     Finished,
+    /// The lows of a rule that is read.
+    Lows,
+    /// The highs of a rule that is read.
+    Highs,
 }
 
-const OWN: [Own; 3] = [Own::Matches, Own::Out, Own::Finished];
+const OWN: [Own; 5] = [Own::Matches, Own::Out, Own::Finished, Own::Lows, Own::Highs];
 
 impl Own {
     /// What it is called.
@@ -27,6 +31,8 @@ impl Own {
             Own::Matches => "matches",
             Own::Out => "out",
             Own::Finished => "finished",
+            Own::Lows => "lows",
+            Own::Highs => "highs",
         }
     }
 
@@ -36,6 +42,7 @@ impl Own {
             Own::Matches => layout.rows(),
             Own::Out => layout.width(),
             Own::Finished => layout.columns(),
+            Own::Lows | Own::Highs => layout.features(),
         }
     }
 }
@@ -45,14 +52,16 @@ pub fn wrong_lengths(right: usize) -> [usize; 3] {
     [0, right - 1, right + 1]
 }
 
-/// A `B` for each buffer of the state, and for each one of a call's own in the
-/// order of [`Own`].
+/// A `B` for each buffer of the state, for each one of a call's own in the order of
+/// [`Own`], and for the belts.
 #[derive(Clone, Copy, Debug, PartialEq, Eq)]
 pub struct Lent<B> {
     /// The state.
     pub state: State<B>,
     /// The buffers of a call's own.
     pub own: [B; OWN.len()],
+    /// The belts.
+    pub belts: B,
 }
 
 impl Lent<&'static str> {
@@ -61,6 +70,7 @@ impl Lent<&'static str> {
         Lent {
             state: State::NAMES,
             own: OWN.map(Own::name),
+            belts: "belts",
         }
     }
 }
@@ -71,16 +81,20 @@ impl Lent<usize> {
         Lent {
             state: State::lengths(layout),
             own: OWN.map(|own| own.length(layout)),
+            belts: layout.rows(),
         }
     }
 }
 
 impl Lent<()> {
     /// How many buffers there are.
-    pub const BUFFERS: usize = State::<()>::BUFFERS + OWN.len();
+    pub const BUFFERS: usize = State::<()>::BUFFERS + OWN.len() + 1;
 
     /// The place of the match bytes among all buffers.
     pub const MATCHES: usize = State::<()>::BUFFERS + Own::Matches as usize;
+
+    /// The place of the belts among all buffers.
+    pub const BELTS: usize = Lent::BUFFERS - 1;
 }
 
 impl<B> Lent<B> {
@@ -88,7 +102,8 @@ impl<B> Lent<B> {
     pub fn map<C>(self, mut change: impl FnMut(B) -> C) -> Lent<C> {
         Lent {
             state: self.state.map(&mut change),
-            own: self.own.map(change),
+            own: self.own.map(&mut change),
+            belts: change(self.belts),
         }
     }
 
@@ -97,6 +112,7 @@ impl<B> Lent<B> {
         Lent {
             state: self.state.each(),
             own: self.own.each_ref(),
+            belts: &self.belts,
         }
     }
 
@@ -105,6 +121,7 @@ impl<B> Lent<B> {
         Lent {
             state: self.state.each_mut(),
             own: self.own.each_mut(),
+            belts: &mut self.belts,
         }
     }
 
@@ -121,13 +138,17 @@ impl<B> Lent<B> {
     }
 }
 
-/// The buffers in order, those of the state first.
+/// The buffers of the state, and then those of a call's own.
+type StateAndOwn<B> =
+    Chain<array::IntoIter<B, { State::<()>::BUFFERS }>, array::IntoIter<B, { OWN.len() }>>;
+
+/// The buffers in order, those of the state first and the belts last.
 impl<B> IntoIterator for Lent<B> {
     type Item = B;
-    type IntoIter =
-        Chain<array::IntoIter<B, { State::<()>::BUFFERS }>, array::IntoIter<B, { OWN.len() }>>;
+    type IntoIter = Chain<StateAndOwn<B>, Once<B>>;
 
     fn into_iter(self) -> Self::IntoIter {
-        self.state.into_array().into_iter().chain(self.own)
+        let state_and_own = self.state.into_array().into_iter().chain(self.own);
+        state_and_own.chain(once(self.belts))
     }
 }

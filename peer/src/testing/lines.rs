@@ -48,7 +48,7 @@ pub const EXAMPLE: Example = Example {
 };
 
 /// The calls that are lent the lines.
-pub const WITH_LINES: [Name; 7] = [
+pub const WITH_LINES: [Name; 8] = [
     Name::Clear,
     Name::Line,
     Name::Lookup,
@@ -56,6 +56,7 @@ pub const WITH_LINES: [Name; 7] = [
     Name::Steps,
     Name::Run,
     Name::FirstMatch,
+    Name::Route,
 ];
 
 /// Bytes of dead lines that no call sets. Some of them have a low bit of 0, or a

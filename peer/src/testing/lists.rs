@@ -1,18 +1,20 @@
 //! Random lists of the calls of demand 3.
 
 use crate::call::{Call, Name};
+use crate::router::Rule;
 use crate::shape::{Layout, Shape};
 use crate::testing::draw::{self, some_bytes, some_length, some_number, Draw};
 use crate::testing::lent::Own;
 use crate::testing::lines::settable;
 use crate::testing::random::Random;
 use crate::testing::rows::{any_row, finished_row, sound_row};
+use crate::testing::rules::{any_bottle, any_rule, bottle_for, spoil_rule};
 use crate::testing::shapes::layout;
 use crate::testing::skips::too_many;
 use crate::testing::steps::some_most;
 
 /// The calls of a list, each as often as its share.
-const SHARES: [Name; 19] = [
+const SHARES: [Name; 23] = [
     Name::Clear,
     Name::Program,
     Name::Program,
@@ -32,21 +34,43 @@ const SHARES: [Name; 19] = [
     Name::Step,
     Name::Steps,
     Name::Steps,
+    Name::Rule,
+    Name::Rule,
+    Name::Route,
+    Name::RuleAt,
 ];
 
-/// A list of so many pieces: a piece is one call with arbitrary arguments, a
-/// row written and then changed in a few cells and perhaps in its line, a row that
-/// is asked for and committed, or a cycle that is run to its end, mostly without a
-/// disturbance.
+/// A list of so many pieces: a piece is one call with arbitrary arguments, a row
+/// written and then changed in a few cells and perhaps in its line, a row that is
+/// asked for and committed, rules and bottles for them, or a cycle that is run to
+/// its end, mostly without a disturbance.
 pub fn list(random: &mut Random, shape: Shape, pieces: usize) -> Vec<Call<Vec<u8>>> {
     let layout = layout(shape);
     let mut calls = Vec::new();
     for _ in 0..pieces {
-        match random.below(7) {
+        match random.below(8) {
             0..=2 => push_some_call(random, &layout, &mut calls),
             3 | 4 => push_changed_row(random, &layout, &mut calls),
             5 => push_asked_row(random, &layout, &mut calls),
+            6 => push_ruled_rows(random, &layout, &mut calls),
             _ => push_cycle(random, &layout, &mut calls),
+        }
+    }
+    calls
+}
+
+/// A list of so many pieces, of which most are rules and bottles for them.
+pub fn router_list(random: &mut Random, shape: Shape, pieces: usize) -> Vec<Call<Vec<u8>>> {
+    let layout = layout(shape);
+    let mut calls = Vec::new();
+    for _ in 0..pieces {
+        match random.below(24) {
+            0..=3 => push_some_call(random, &layout, &mut calls),
+            4 => push_changed_row(random, &layout, &mut calls),
+            5 => push_asked_row(random, &layout, &mut calls),
+            6 => push_cycle(random, &layout, &mut calls),
+            7 | 8 => calls.push(Call::Clear),
+            _ => push_ruled_rows(random, &layout, &mut calls),
         }
     }
     calls
@@ -56,10 +80,12 @@ pub fn list(random: &mut Random, shape: Shape, pieces: usize) -> Vec<Call<Vec<u8
 fn push_some_call(random: &mut Random, layout: &Layout, calls: &mut Vec<Call<Vec<u8>>>) {
     let name = random.pick(&SHARES);
     let asked = last_asked(layout, calls);
+    let rule = some_rule(random, calls);
     let mut mostly = Mostly {
         random,
         layout,
         asked,
+        rule,
     };
     calls.push(draw::call(name, &mut mostly));
 }
@@ -91,6 +117,98 @@ fn push_changed_row(random: &mut Random, layout: &Layout, calls: &mut Vec<Call<V
     }
     if random.one_in(3) {
         calls.push(right_line(random, row));
+    }
+}
+
+/// One of the last rules of the calls, written or refused, if there is one.
+fn some_rule(random: &mut Random, calls: &[Call<Vec<u8>>]) -> Option<Rule<Vec<u8>>> {
+    let rules = calls.iter().rev().filter_map(|call| match call {
+        Call::Rule { rule, .. } => Some(rule),
+        _ => None,
+    });
+    rules.take(4).nth(random.below(4)).cloned()
+}
+
+/// Writes rules to some rows; now and then a cell of one drifts and mostly back,
+/// its line is set, or a rule is written to it that is mostly refused. Bottles for
+/// these and earlier rules are routed, and a rule is read.
+fn push_ruled_rows(random: &mut Random, layout: &Layout, calls: &mut Vec<Call<Vec<u8>>>) {
+    for _ in 0..random.between(1, 4) {
+        let row = random.below(layout.rows());
+        let rule = any_rule(random, layout);
+        let kept = rule.clone();
+        calls.push(Call::Rule { row, rule });
+        match random.below(8) {
+            0 | 1 if layout.features() > 0 => {
+                push_there_and_back(random, layout, row, &kept, calls);
+            }
+            2 => calls.push(right_line(random, row)),
+            3 => calls.push(spoiled_rule(random, layout, row)),
+            _ => {}
+        }
+    }
+    for _ in 0..random.between(1, 5) {
+        let rule = some_rule(random, calls);
+        calls.push(right_route(random, layout, rule.as_ref()));
+    }
+    calls.push(Call::RuleAt {
+        row: random.below(layout.rows()),
+        lows: random.bytes(layout.features()),
+        highs: random.bytes(layout.features()),
+    });
+}
+
+/// A rule with something wrong in it is written to a row.
+fn spoiled_rule(random: &mut Random, layout: &Layout, row: usize) -> Call<Vec<u8>> {
+    let mut rule = any_rule(random, layout);
+    for _ in 0..random.between(1, 2) {
+        spoil_rule(random, &mut rule);
+    }
+    Call::Rule { row, rule }
+}
+
+/// A rule cell of the row to which a rule was written drifts, a bottle is routed,
+/// and mostly the cell drifts back.
+fn push_there_and_back(
+    random: &mut Random,
+    layout: &Layout,
+    row: usize,
+    rule: &Rule<Vec<u8>>,
+    calls: &mut Vec<Call<Vec<u8>>>,
+) {
+    let feature = random.below(layout.features());
+    let (column, back) = match random.one_in(2) {
+        true => (2 * feature, rule.highs[feature]),
+        false => (2 * feature + 1, layout.highest() - rule.lows[feature]),
+    };
+    let drift = |level| Call::Drift { row, column, level };
+    calls.push(drift(random.level(layout.levels())));
+    calls.push(right_route(random, layout, Some(rule)));
+    if !random.one_in(4) {
+        calls.push(drift(back));
+    }
+}
+
+/// A bottle for a rule is routed, or any.
+fn right_route(
+    random: &mut Random,
+    layout: &Layout,
+    rule: Option<&Rule<Vec<u8>>>,
+) -> Call<Vec<u8>> {
+    Call::Route {
+        values: some_bottle(random, layout, rule),
+    }
+}
+
+/// A bottle for a rule, or any where there is none or one of another length.
+fn some_bottle(random: &mut Random, layout: &Layout, rule: Option<&Rule<Vec<u8>>>) -> Vec<u8> {
+    let fits = |rule: &&Rule<Vec<u8>>| {
+        let lengths = [rule.lows.len(), rule.highs.len()];
+        lengths == [layout.features(); 2]
+    };
+    match rule.filter(fits) {
+        Some(rule) => bottle_for(random, layout, rule),
+        None => any_bottle(random, layout),
     }
 }
 
@@ -197,16 +315,16 @@ struct Mostly<'a> {
     layout: &'a Layout,
     /// What an ask before wrote, if there is one.
     asked: Option<Vec<u8>>,
+    /// A rule before, if there is one.
+    rule: Option<Rule<Vec<u8>>>,
 }
 
 impl Mostly<'_> {
-    /// Mostly as many good levels as there are rule columns; else more, fewer,
-    /// or a level that is too high.
-    fn levels(&mut self) -> Vec<u8> {
-        let length = some_length(self.random, self.layout.width());
-        let mut levels = self.random.levels(self.layout.levels(), length);
-        if self.random.one_in(8) && length > 0 {
-            let place = self.random.below(length);
+    /// Now and then more of the levels, fewer, or one that is too high.
+    fn perhaps_wrong(&mut self, mut levels: Vec<u8>) -> Vec<u8> {
+        levels.resize(some_length(self.random, levels.len()), 0);
+        if self.random.one_in(8) && !levels.is_empty() {
+            let place = self.random.below(levels.len());
             levels[place] = self.random.byte();
         }
         levels
@@ -216,8 +334,8 @@ impl Mostly<'_> {
 impl Draw for Mostly<'_> {
     type Buffer = Vec<u8>;
 
-    fn rule(&mut self) -> (usize, Vec<u8>) {
-        (self.row(), self.levels())
+    fn levels(&mut self) -> (usize, Vec<u8>) {
+        (self.row(), self.inputs())
     }
 
     /// Mostly as many bytes as there are columns.
@@ -255,8 +373,26 @@ impl Draw for Mostly<'_> {
         }
     }
 
+    /// Mostly as many good levels as there are rule columns.
     fn inputs(&mut self) -> Vec<u8> {
-        self.levels()
+        let levels = self.layout.levels();
+        let levels = self.random.levels(levels, self.layout.width());
+        self.perhaps_wrong(levels)
+    }
+
+    /// Mostly a good one.
+    fn rule(&mut self) -> Rule<Vec<u8>> {
+        let mut rule = any_rule(self.random, self.layout);
+        for _ in 0..self.random.below(6).saturating_sub(3) {
+            spoil_rule(self.random, &mut rule);
+        }
+        rule
+    }
+
+    fn values(&mut self) -> Vec<u8> {
+        let rule = self.rule.take();
+        let values = some_bottle(self.random, self.layout, rule.as_ref());
+        self.perhaps_wrong(values)
     }
 
     fn skip(&mut self) -> usize {

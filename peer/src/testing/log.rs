@@ -1,8 +1,12 @@
 //! The log of a list, by document 01: what the list did. It is fed the shape and
 //! the calls with their arguments, and none of the library's answers.
 
+use std::mem;
+
 use crate::call::Call;
+use crate::router::Rule;
 use crate::shape::Shape;
+use crate::testing::naive::router::levels_of;
 use crate::testing::naive::spec::{questions, Spec};
 use crate::testing::verdict::Row;
 
@@ -17,6 +21,17 @@ pub enum LoggedCycle {
     Ended,
 }
 
+/// What was written to a row last.
+#[derive(Clone, Debug, PartialEq, Eq)]
+pub enum Last {
+    /// Nothing since the fresh array or a clear: the row holds no rule.
+    Nothing,
+    /// A belt rule.
+    Rule(Rule<Vec<u8>>),
+    /// Levels or a finished row, which are no rule.
+    Plain,
+}
+
 /// What a list did.
 #[derive(Clone, Debug, PartialEq, Eq)]
 pub struct Log {
@@ -26,8 +41,12 @@ pub struct Log {
     pub written: Vec<Vec<u8>>,
     /// Each row as it stands.
     pub standing: Vec<Vec<u8>>,
+    /// What was written to each row last.
+    pub last: Vec<Last>,
     /// The lines.
     pub lines: Vec<u8>,
+    /// The belts.
+    pub belts: Vec<u8>,
     /// Where the cycle is.
     pub cycle: LoggedCycle,
     /// The steps of the cycle, 0 where there is none.
@@ -42,7 +61,7 @@ pub struct Log {
 }
 
 impl Log {
-    /// The log of the list without a call.
+    /// The log of the list without a call, where all belts are 0.
     ///
     /// # Panics
     ///
@@ -54,7 +73,9 @@ impl Log {
             spec,
             written: zeros.clone(),
             standing: zeros,
+            last: vec![Last::Nothing; shape.rows],
             lines: vec![0; shape.rows],
+            belts: vec![0; shape.rows],
             cycle: LoggedCycle::None,
             count: 0,
             skip: 0,
@@ -70,12 +91,13 @@ impl Log {
     /// If it is no call of demand 3's lists.
     pub fn feed(&mut self, call: &Call<Vec<u8>>) {
         match call {
-            Call::Clear => *self = Log::new(self.spec.shape),
+            Call::Clear => self.clear(),
             Call::Program { row, levels } => self.program(*row, levels),
             Call::Commit { row, finished } => self.commit(*row, finished),
+            Call::Rule { row, rule } => self.rule(*row, rule),
             Call::Drift { row, column, level } => self.drift(*row, *column, *level),
             Call::Line { row, byte } => self.line(*row, *byte),
-            Call::Ask { .. } | Call::Lookup { .. } => {}
+            Call::Ask { .. } | Call::Lookup { .. } | Call::Route { .. } | Call::RuleAt { .. } => {}
             Call::Start { skip } => self.start(*skip),
             Call::Step { matches } => self.step(matches.len()),
             Call::Steps { most, matches } => self.steps(*most, matches.len()),
@@ -94,24 +116,48 @@ impl Log {
             .all(|&level| usize::from(level) < self.spec.levels)
     }
 
+    /// The belts stay.
+    fn clear(&mut self) {
+        let belts = mem::take(&mut self.belts);
+        *self = Log {
+            belts,
+            ..Log::new(self.spec.shape)
+        };
+    }
+
     fn program(&mut self, row: usize, levels: &[u8]) {
         if levels.len() == self.spec.shape.width && self.below(levels) {
-            self.write_row(row, self.spec.encoded(levels));
+            self.write_row(row, self.spec.encoded(levels), Last::Plain);
         }
     }
 
     fn commit(&mut self, row: usize, finished: &[u8]) {
         if finished.len() == self.spec.columns() && self.spec.is_sound(finished) {
-            self.write_row(row, finished.to_vec());
+            self.write_row(row, finished.to_vec(), Last::Plain);
+        }
+    }
+
+    fn rule(&mut self, row: usize, rule: &Rule<Vec<u8>>) {
+        let Rule { lows, highs, belt } = rule;
+        let two_columns = |values: &[u8]| 2 * values.len() == self.spec.shape.width;
+        let lengths = two_columns(lows) && two_columns(highs);
+        let ranges = lows.iter().zip(highs).all(|(low, high)| low <= high);
+        if lengths && self.below(lows) && self.below(highs) && ranges {
+            let cells = self.spec.encoded(&levels_of(&self.spec, rule));
+            self.write_row(row, cells, Last::Rule(rule.clone()));
+            if let Some(kept) = self.belts.get_mut(row) {
+                *kept = *belt;
+            }
         }
     }
 
     /// A row is written, where there is such a one: both its forms become the
     /// cells, and there is no cycle any more.
-    fn write_row(&mut self, row: usize, cells: Vec<u8>) {
+    fn write_row(&mut self, row: usize, cells: Vec<u8>, last: Last) {
         if row < self.spec.shape.rows {
             self.written[row] = cells.clone();
             self.standing[row] = cells;
+            self.last[row] = last;
             self.cycle = LoggedCycle::None;
             self.count = 0;
             self.skip = 0;

@@ -21,6 +21,8 @@
 //! - [`lent`], [`guard`]: what is lent to a call, and the bytes around it;
 //! - [`panels`]: an example, flags and totals for the panel, and what it did;
 //! - [`asks`]: an example of ask and commit, and what was seen of them;
+//! - [`rules`]: an example of belt rules, rules and bottles of every kind, and what
+//!   was seen of them;
 //! - [`lines`]: an example of a dead line, line bytes of every kind, records
 //!   beside that of an opening, and what was seen of dead lines;
 //! - [`skips`]: an example of coarse cycles, numbers of digits that no start
@@ -51,6 +53,7 @@ pub mod program;
 pub mod random;
 pub mod records;
 pub mod rows;
+pub mod rules;
 pub mod settings;
 pub mod shapes;
 pub mod skips;

@@ -45,6 +45,16 @@ pub fn small_shape(random: &mut Random) -> Shape {
     }
 }
 
+/// The shape, with an even number of rule columns where it has an odd one: one
+/// fewer, or two.
+pub fn even(shape: Shape) -> Shape {
+    let width = shape.width - shape.width % 2;
+    Shape {
+        width: width.max(2),
+        ..shape
+    }
+}
+
 /// A small shape whose cycle of all digits has at most so many lookups (three
 /// or more) besides its opening.
 pub fn short_cycle_shape(random: &mut Random, lookups: usize) -> Shape {

@@ -26,6 +26,9 @@ fn own_questions(name: Name) -> &'static [u8] {
         Name::Sizes | Name::Start | Name::Run => &[15],
         Name::Step | Name::Steps => &[9],
         Name::Sound | Name::Read => &[7],
+        Name::Rule => &[7, 8, 18, 19],
+        Name::Route => &[8, 18],
+        Name::RuleAt => &[7, 18],
     }
 }
 
@@ -53,7 +56,16 @@ impl Tally {
     ///
     /// If that is not so.
     pub fn assert_complete(&self) {
-        for &name in Name::ALL {
+        self.assert_complete_for(Name::ALL);
+    }
+
+    /// The same for some of the calls.
+    ///
+    /// # Panics
+    ///
+    /// If that is not so.
+    pub fn assert_complete_for(&self, names: &[Name]) {
+        for &name in names {
             for number in 0..=u8::MAX {
                 let seen = self.0.contains_key(&(name, number));
                 let possible = is_possible(name, number);

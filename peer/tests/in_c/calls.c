@@ -1,8 +1,8 @@
 // The calls by their header: document 01's rows M1, M2 and M5, a drift, the cycle that finds it,
 // several steps by one call, what the panel is told, coarse cycles, a dead match line, a row that
-// is asked for and committed, and refusals; and an array on which every answer is another number,
-// so that two that are swapped are seen. Each variable for an answer starts with a value that the
-// call does not give.
+// is asked for and committed, belt rules and bottles for them, and refusals; and an array on which
+// every answer is another number, so that two that are swapped are seen. Each variable for an
+// answer starts with a value that the call does not give.
 #include "jorivelune.h"
 
 #include "expect.h"
@@ -433,6 +433,196 @@ static int asked_row(void)
     return 0;
 }
 
+// What is lent to the router of three rows, four rule columns and a check column.
+struct lent_router {
+    uint8_t cells[15], lines[3], belts[3];
+};
+
+static const struct jorivelune_shape sorter = {2, 3, 1, 4, 3};
+
+// A rule of two features for a row.
+static uint8_t write_rule(struct jorivelune_record *record, struct lent_router *lent, size_t row,
+                          const uint8_t lows[2], const uint8_t highs[2], uint8_t belt)
+{
+    return jorivelune_rule(record, sorter, lent->cells, 15, lent->belts, 3, row, lows, 2, highs, 2,
+                           belt);
+}
+
+static uint8_t find_route(const struct lent_router *lent, const uint8_t values[2], size_t *found,
+                          uint8_t *belt)
+{
+    return jorivelune_route(sorter, lent->cells, 15, lent->lines, 3, lent->belts, 3, values, 2,
+                            found, belt);
+}
+
+// The fresh array with 50, 51 and 52 for belts, which the clear keeps.
+static int begin_router(struct jorivelune_record *record, struct lent_router *lent)
+{
+    const uint8_t belts[3] = {50, 51, 52};
+    uint8_t counters[3], flags[3], totals[1];
+
+    memset(lent, 7, sizeof *lent);
+    memcpy(lent->belts, belts, 3);
+    TAKEN(jorivelune_clear(record, sorter, lent->cells, 15, lent->lines, 3, counters, 3, flags, 3,
+                           totals, 1));
+    EXPECT(memcmp(lent->belts, belts, 3) == 0);
+    return 0;
+}
+
+// Two rules, of which the second holds every bottle: of lows 2 0 and highs 5 3, and of 0 0 and 7 7.
+static int belt_rules(void)
+{
+    const uint8_t lows[2] = {2, 0}, highs[2] = {5, 3}, least[2] = {0, 0}, most[2] = {7, 7};
+    const uint8_t first[2] = {2, 3}, second[2] = {6, 3}, plain[4] = {7, 7, 7, 7};
+    const uint8_t rows[15] = {5, 5, 3, 7, 4, 7, 7, 7, 7, 0, 0, 0, 0, 0, 0};
+    const struct jorivelune_record idle = {0};
+    struct jorivelune_record record = {0};
+    struct lent_router lent;
+    uint8_t counters[3], flags[3], totals[1], read_lows[2] = {9, 9}, read_highs[2] = {9, 9};
+    uint8_t belt = 99;
+    size_t found = 9;
+
+    // no row of the fresh array holds a bottle, and its rows are read as 7 to 0
+    EXPECT(begin_router(&record, &lent) == 0);
+    TAKEN(find_route(&lent, least, &found, &belt));
+    EXPECT(found == sorter.rows && belt == 0);
+    TAKEN(jorivelune_rule_at(sorter, lent.cells, 15, lent.belts, 3, 2, read_lows, 2, read_highs, 2,
+                             &belt));
+    EXPECT(memcmp(read_lows, most, 2) == 0 && memcmp(read_highs, least, 2) == 0 && belt == 52);
+
+    // a rule is a programming: the record becomes idle
+    TAKEN(jorivelune_start(&record, sorter, 1, counters, 3, flags, 3, totals, 1));
+    TAKEN(write_rule(&record, &lent, 0, lows, highs, 7));
+    EXPECT(memcmp(&idle, &record, sizeof record) == 0);
+    TAKEN(write_rule(&record, &lent, 1, least, most, 9));
+    EXPECT(memcmp(lent.cells, rows, 15) == 0);
+    EXPECT(lent.belts[0] == 7 && lent.belts[1] == 9 && lent.belts[2] == 52);
+    TAKEN(find_route(&lent, first, &found, &belt));
+    EXPECT(found == 0 && belt == 7);
+    TAKEN(find_route(&lent, second, &found, &belt));
+    EXPECT(found == 1 && belt == 9);
+    TAKEN(jorivelune_rule_at(sorter, lent.cells, 15, lent.belts, 3, 0, read_lows, 2, read_highs, 2,
+                             &belt));
+    EXPECT(memcmp(read_lows, lows, 2) == 0 && memcmp(read_highs, highs, 2) == 0 && belt == 7);
+
+    // a drift takes the bottle away from its rule, and the drift back returns it
+    TAKEN(jorivelune_drift(sorter, lent.cells, 15, 0, 2, 2));
+    TAKEN(find_route(&lent, first, &found, &belt));
+    EXPECT(found == 1 && belt == 9);
+    TAKEN(jorivelune_drift(sorter, lent.cells, 15, 0, 2, 3));
+    TAKEN(find_route(&lent, first, &found, &belt));
+    EXPECT(found == 0 && belt == 7);
+
+    // a dead line is passed over; a cell of 8 or more holds any value, and is read as it stands
+    TAKEN(jorivelune_line(sorter, lent.lines, 3, 0, 1));
+    TAKEN(find_route(&lent, first, &found, &belt));
+    EXPECT(found == 1 && belt == 9);
+    lent.cells[6] = lent.cells[7] = 200;
+    TAKEN(find_route(&lent, second, &found, &belt));
+    EXPECT(found == 1 && belt == 9);
+    TAKEN(jorivelune_rule_at(sorter, lent.cells, 15, lent.belts, 3, 1, read_lows, 2, read_highs, 2,
+                             &belt));
+    EXPECT(read_lows[0] == 0 && read_lows[1] == 0);
+    EXPECT(read_highs[0] == 7 && read_highs[1] == 200 && belt == 9);
+
+    // a row that is programmed keeps the belt that stands there
+    TAKEN(jorivelune_line(sorter, lent.lines, 3, 1, 1));
+    TAKEN(jorivelune_program(&record, sorter, lent.cells, 15, 2, plain, 4));
+    TAKEN(find_route(&lent, second, &found, &belt));
+    EXPECT(found == 2 && belt == 52);
+    return 0;
+}
+
+// A rule is refused in the order of the questions, with all that fails later wrong too.
+static int refused_rules(void)
+{
+    const uint8_t lows[3] = {3, 0, 0}, highs[3] = {2, 3, 3}, above[3] = {8, 3, 3};
+    const uint8_t later_above[2] = {2, 8};
+    const struct jorivelune_shape tall = {2, 3, 1, 3, 4097}, odd = {2, 3, 1, 3, 3};
+    const size_t lengths[5][4] = {
+        {14, 3, 2, 2}, {15, 2, 2, 2}, {15, 3, 1, 2}, {15, 3, 2, 3}, {15, 3, 0, 0}};
+    struct jorivelune_record record = {0}, open;
+    struct lent_router lent, before;
+
+    EXPECT(begin_router(&record, &lent) == 0);
+    record.phase = JORIVELUNE_OPEN;
+    open = record;
+    before = lent;
+    REFUSED(jorivelune_rule(&record, tall, lent.cells, 14, lent.belts, 2, 3, lows, 1, above, 1, 9),
+            ROWS);
+    REFUSED(jorivelune_rule(&record, odd, lent.cells, 14, lent.belts, 2, 3, lows, 1, above, 1, 9),
+            FEATURES);
+    REFUSED(jorivelune_rule(&record, odd, lent.cells, 12, lent.belts, 3, 0, lows, 1, highs, 1, 9),
+            FEATURES);
+    for (int i = 0; i < 5; i++) {
+        const size_t *each = lengths[i];
+        REFUSED(jorivelune_rule(&record, sorter, lent.cells, each[0], lent.belts, each[1], 3,
+                                lows, each[2], above, each[3], 9), LENGTH);
+    }
+    REFUSED(write_rule(&record, &lent, 3, lows, above, 9), PLACE);
+    REFUSED(write_rule(&record, &lent, 2, above, highs, 9), LEVEL);
+    REFUSED(write_rule(&record, &lent, 2, lows, above, 9), LEVEL);
+    REFUSED(write_rule(&record, &lent, 2, lows, later_above, 9), LEVEL);
+    REFUSED(write_rule(&record, &lent, 2, lows, highs, 9), RANGE);
+    EXPECT(memcmp(&open, &record, sizeof record) == 0 && memcmp(&before, &lent, sizeof lent) == 0);
+    return 0;
+}
+
+// Refused bottles and rules that are not read answer 0, and the buffers stay.
+static int refused_routes(void)
+{
+    const uint8_t values[3] = {0, 8, 0};
+    const struct jorivelune_shape tall = {2, 3, 1, 3, 4097}, odd = {2, 3, 1, 3, 3};
+    const size_t lengths[5][4] = {
+        {14, 3, 3, 2}, {15, 2, 3, 2}, {15, 3, 2, 2}, {15, 3, 3, 1}, {15, 3, 3, 3}};
+    const size_t read_lengths[5][4] = {
+        {14, 3, 2, 2}, {15, 2, 2, 2}, {15, 3, 1, 2}, {15, 3, 2, 3}, {15, 3, 0, 0}};
+    struct jorivelune_record record = {0};
+    struct lent_router lent;
+    uint8_t belt = 99, lows[3] = {71, 72, 73}, highs[3] = {81, 82, 83};
+    size_t found = 9;
+
+    EXPECT(begin_router(&record, &lent) == 0);
+    REFUSED(jorivelune_route(tall, lent.cells, 14, lent.lines, 3, lent.belts, 3, values, 1, &found,
+                             &belt), ROWS);
+    EXPECT(found == 0 && belt == 0);
+    found = belt = 9;
+    REFUSED(jorivelune_route(odd, lent.cells, 14, lent.lines, 3, lent.belts, 3, values, 1, &found,
+                             &belt), FEATURES);
+    EXPECT(found == 0 && belt == 0);
+    for (int i = 0; i < 5; i++) {
+        const size_t *each = lengths[i];
+        found = belt = 9;
+        REFUSED(jorivelune_route(sorter, lent.cells, each[0], lent.lines, each[1], lent.belts,
+                                 each[2], values, each[3], &found, &belt), LENGTH);
+        EXPECT(found == 0 && belt == 0);
+    }
+    found = belt = 9;
+    REFUSED(find_route(&lent, values, &found, &belt), LEVEL);
+    EXPECT(found == 0 && belt == 0);
+
+    belt = 9;
+    REFUSED(jorivelune_rule_at(tall, lent.cells, 14, lent.belts, 3, 3, lows, 1, highs, 1, &belt),
+            ROWS);
+    EXPECT(belt == 0);
+    belt = 9;
+    REFUSED(jorivelune_rule_at(odd, lent.cells, 14, lent.belts, 3, 3, lows, 1, highs, 1, &belt),
+            FEATURES);
+    EXPECT(belt == 0);
+    for (int i = 0; i < 5; i++) {
+        const size_t *each = read_lengths[i];
+        belt = 9;
+        REFUSED(jorivelune_rule_at(sorter, lent.cells, each[0], lent.belts, each[1], 3,
+                                   lows, each[2], highs, each[3], &belt), LENGTH);
+        EXPECT(belt == 0);
+    }
+    belt = 9;
+    REFUSED(jorivelune_rule_at(sorter, lent.cells, 15, lent.belts, 3, 3, lows, 2, highs, 2, &belt),
+            PLACE);
+    EXPECT(belt == 0 && lows[0] == 71 && lows[1] == 72 && highs[0] == 81 && highs[1] == 82);
+    return 0;
+}
+
 // An array whose five numbers, sizes and answers are all different. Its check columns follow seven
 // rule columns with the ones of 7, 11, 13, 14, 19, 21 and 22, so W is 26.
 enum { ROWS = 600, CELLS = 7200, BLOCKS = 10, WIDTH = 7, COLUMNS = 12 };
@@ -572,6 +762,12 @@ int main(void)
         wrong = dead_line();
     if (!wrong)
         wrong = asked_row();
+    if (!wrong)
+        wrong = belt_rules();
+    if (!wrong)
+        wrong = refused_rules();
+    if (!wrong)
+        wrong = refused_routes();
     if (!wrong)
         wrong = different_answers();
     return wrong ? wrong : decimal_digits();

@@ -1,6 +1,7 @@
 // The calls on one struct, by jorivelune_head.h. Each is made twice, on a head and by the plain
 // call of jorivelune.h on buffers of their own; both have to leave the same record and the same
-// bytes. Besides: how the memory is lent, NULL, wrong lengths and the words of the refusals. This
+// bytes. Belt rules are made so on a second head, since the first has an odd number of rule
+// columns. Besides: how the memory is lent, NULL, wrong lengths and the words of the refusals. This
 // file is compiled as C11 and as C++17.
 #include "jorivelune_head.h"
 
@@ -21,7 +22,7 @@
 
 // An array whose five numbers and sizes are all different: q is 64, r is 5 and W is 26.
 enum { ROWS = 600, CELLS = 7200, BLOCKS = 10, WIDTH = 7, COLUMNS = 12 };
-enum { ENOUGH = JORIVELUNE_HEAD_BYTES(ROWS, WIDTH), EXACT = CELLS + 4 * ROWS + BLOCKS };
+enum { ENOUGH = JORIVELUNE_HEAD_BYTES(ROWS, WIDTH), EXACT = CELLS + 5 * ROWS + BLOCKS };
 
 static const struct jorivelune_shape shape = {2, 6, 3, WIDTH, ROWS};
 static const uint8_t rule[COLUMNS] = {1, 2, 3, 4, 5, 6, 8, 3, 10, 8, 5, 11};
@@ -32,6 +33,7 @@ static struct jorivelune_head head;
 static struct {
     struct jorivelune_record record;
     uint8_t cells[CELLS], lines[ROWS], counters[ROWS], flags[ROWS], totals[BLOCKS], matches[ROWS];
+    uint8_t belts[ROWS];
 } plain;
 
 static bool equal(struct jorivelune_part part, const uint8_t *bytes, size_t length)
@@ -54,7 +56,7 @@ static bool same(void)
            equal(head.cells, WHOLE(cells)) && equal(head.lines, WHOLE(lines)) &&
            equal(head.counters, WHOLE(counters)) && equal(head.flags, WHOLE(flags)) &&
            equal(head.totals, WHOLE(totals)) && equal(head.matches, WHOLE(matches)) &&
-           rest_is_left();
+           equal(head.belts, WHOLE(belts)) && rest_is_left();
 }
 
 // A head in all of the memory, and in each buffer of both bytes of its own.
@@ -69,31 +71,35 @@ static int begin(void)
     memset(plain.flags, 14, ROWS);
     memset(plain.totals, 15, BLOCKS);
     memset(plain.matches, 16, ROWS);
+    memset(plain.belts, 17, ROWS);
     memcpy(head.cells.bytes, plain.cells, CELLS);
     memcpy(head.lines.bytes, plain.lines, ROWS);
     memcpy(head.counters.bytes, plain.counters, ROWS);
     memcpy(head.flags.bytes, plain.flags, ROWS);
     memcpy(head.totals.bytes, plain.totals, BLOCKS);
     memcpy(head.matches.bytes, plain.matches, ROWS);
+    memcpy(head.belts.bytes, plain.belts, ROWS);
     EXPECT(same());
     return 0;
 }
 
 // ---- words and sizes
 
-// Every number from 0 to 17 has words of its own, and any other the same ones.
+// Every number from 0 to 19 has words of its own, and any other the same ones.
 static int words(void)
 {
     const char *none = jorivelune_words(200);
 
     EXPECT(none[0] != 0 && strcmp(none, jorivelune_words(255)) == 0);
-    for (uint8_t number = 0; number <= 17; number++) {
+    for (uint8_t number = 0; number <= 19; number++) {
         EXPECT(jorivelune_words(number)[0] != 0 && strcmp(none, jorivelune_words(number)) != 0);
         for (uint8_t lower = 0; lower < number; lower++)
             EXPECT(strcmp(jorivelune_words(lower), jorivelune_words(number)) != 0);
     }
     EXPECT(strstr(jorivelune_words(JORIVELUNE_BAD_RADIX), "radix") != NULL);
     EXPECT(strstr(jorivelune_words(JORIVELUNE_BAD_FINISHED), "finished") != NULL);
+    EXPECT(strstr(jorivelune_words(JORIVELUNE_BAD_FEATURES), "feature") != NULL);
+    EXPECT(strstr(jorivelune_words(JORIVELUNE_BAD_RANGE), "low") != NULL);
     return 0;
 }
 
@@ -133,11 +139,11 @@ static bool apart(struct jorivelune_part one, struct jorivelune_part other)
 // The parts of a head do not overlap, and fill so many bytes of the memory and no other.
 static int parts(const struct jorivelune_head *cut, const uint8_t *lent, size_t bytes)
 {
-    const struct jorivelune_part each[6] = {cut->cells, cut->lines,  cut->counters,
-                                            cut->flags, cut->totals, cut->matches};
+    const struct jorivelune_part each[7] = {cut->cells,  cut->lines,   cut->counters, cut->flags,
+                                            cut->totals, cut->matches, cut->belts};
     size_t sum = 0;
 
-    for (int i = 0; i < 6; i++) {
+    for (int i = 0; i < 7; i++) {
         sum += each[i].length;
         EXPECT(each[i].length > 0 && each[i].bytes >= lent);
         EXPECT(each[i].bytes + each[i].length <= lent + bytes);
@@ -167,6 +173,7 @@ static int heads_of_all_shapes(void)
                 EXPECT(parts(&cut, most, bytes) == 0);
                 EXPECT(cut.lines.length == rows[i] && cut.counters.length == rows[i]);
                 EXPECT(cut.flags.length == rows[i] && cut.matches.length == rows[i]);
+                EXPECT(cut.belts.length == rows[i]);
                 EXPECT(cut.cells.length % rows[i] == 0 && cut.cells.length / rows[i] > width);
                 EXPECT(cut.totals.length == (rows[i] + 63) / 64);
             }
@@ -335,6 +342,165 @@ static int rows_by_number(void)
     return 0;
 }
 
+// ---- belt rules
+
+// A head of four features: q is 64, r is 5 and n is 13.
+enum { FEATURES = 4, SORTER_COLUMNS = 13 };
+
+static const struct jorivelune_shape sorter_shape = {2, 6, 3, 2 * FEATURES, ROWS};
+static const uint8_t rule_lows[FEATURES] = {5, 0, 63, 20}, rule_highs[FEATURES] = {9, 63, 63, 40};
+static const uint8_t bottle[FEATURES] = {7, 1, 63, 40};
+
+static uint8_t sorter_memory[JORIVELUNE_HEAD_BYTES(ROWS, 2 * FEATURES)];
+static struct jorivelune_head sorter;
+static struct {
+    struct jorivelune_record record;
+    uint8_t cells[ROWS * SORTER_COLUMNS], lines[ROWS], belts[ROWS];
+} by_hand;
+
+static bool same_belts(void)
+{
+    return memcmp(&sorter.record, &by_hand.record, sizeof by_hand.record) == 0 &&
+           equal(sorter.cells, by_hand.cells, sizeof by_hand.cells) &&
+           equal(sorter.lines, by_hand.lines, ROWS) && equal(sorter.belts, by_hand.belts, ROWS);
+}
+
+// Two ways to make one call of the router: both are taken, and leave the same.
+#define SAME_BELTS(by_head, plainly) \
+    do { \
+        TAKEN(by_head); \
+        TAKEN(plainly); \
+        EXPECT(same_belts()); \
+    } while (0)
+
+// A fresh array but for its belts, and in it two rules of which the first holds the bottle.
+static int written_rules(void)
+{
+    const uint8_t levels[2 * FEATURES] = {9, 58, 63, 63, 63, 0, 40, 43};
+    const uint8_t least[FEATURES] = {0, 0, 0, 0}, most[FEATURES] = {63, 63, 63, 63};
+
+    memset(sorter_memory, 0, sizeof sorter_memory);
+    TAKEN(jorivelune_head_lend(&sorter, sorter_shape, sorter_memory, sizeof sorter_memory));
+    TAKEN(jorivelune_head_clear(&sorter));
+    memset(sorter.belts.bytes, 17, ROWS);
+    memset(by_hand.belts, 17, ROWS);
+    EXPECT(same_belts());
+    SAME_BELTS(jorivelune_head_rule(&sorter, 151, rule_lows, FEATURES, rule_highs, FEATURES, 77),
+               jorivelune_rule(&by_hand.record, sorter_shape, by_hand.cells, sizeof by_hand.cells,
+                               by_hand.belts, ROWS, 151, rule_lows, FEATURES, rule_highs, FEATURES,
+                               77));
+    EXPECT(memcmp(sorter.cells.bytes + 151 * SORTER_COLUMNS, levels, sizeof levels) == 0);
+    EXPECT(sorter.belts.bytes[151] == 77 && sorter.belts.bytes[150] == 17);
+    SAME_BELTS(jorivelune_head_rule(&sorter, 300, least, FEATURES, most, FEATURES, 88),
+               jorivelune_rule(&by_hand.record, sorter_shape, by_hand.cells, sizeof by_hand.cells,
+                               by_hand.belts, ROWS, 300, least, FEATURES, most, FEATURES, 88));
+    return 0;
+}
+
+static uint8_t route_by_hand(const uint8_t *values, size_t *found, uint8_t *belt)
+{
+    return jorivelune_route(sorter_shape, by_hand.cells, sizeof by_hand.cells, by_hand.lines, ROWS,
+                            by_hand.belts, ROWS, values, FEATURES, found, belt);
+}
+
+// The bottle goes to the first rule, and one that is too high in a feature to the second; where
+// both lines are dead, to none.
+static int routes(void)
+{
+    const uint8_t high[FEATURES] = {7, 1, 63, 41};
+    size_t found = 9, found_by_hand = 9;
+    uint8_t belt = 9, belt_by_hand = 9;
+
+    SAME_BELTS(jorivelune_head_route(&sorter, bottle, FEATURES, &found, &belt),
+               route_by_hand(bottle, &found_by_hand, &belt_by_hand));
+    EXPECT(found == 151 && belt == 77 && found_by_hand == 151 && belt_by_hand == 77);
+    SAME_BELTS(jorivelune_head_route(&sorter, high, FEATURES, &found, &belt),
+               route_by_hand(high, &found_by_hand, &belt_by_hand));
+    EXPECT(found == 300 && belt == 88 && found_by_hand == 300 && belt_by_hand == 88);
+    sorter.lines.bytes[151] = by_hand.lines[151] = 1;
+    SAME_BELTS(jorivelune_head_route(&sorter, bottle, FEATURES, &found, NULL),
+               route_by_hand(bottle, &found_by_hand, &belt_by_hand));
+    EXPECT(found == 300 && found_by_hand == 300);
+    sorter.lines.bytes[300] = by_hand.lines[300] = 2;
+    SAME_BELTS(jorivelune_head_route(&sorter, bottle, FEATURES, NULL, &belt),
+               route_by_hand(bottle, &found_by_hand, &belt_by_hand));
+    EXPECT(belt == 0 && found_by_hand == ROWS && belt_by_hand == 0);
+    TAKEN(jorivelune_head_route(&sorter, bottle, FEATURES, NULL, NULL));
+    EXPECT(same_belts());
+    return 0;
+}
+
+static int rules_by_number(void)
+{
+    uint8_t lows[FEATURES] = {1, 1, 1, 1}, highs[FEATURES] = {2, 2, 2, 2}, belt = 9;
+    uint8_t more_lows[FEATURES] = {1, 1, 1, 1}, more_highs[FEATURES] = {2, 2, 2, 2}, other = 9;
+
+    SAME_BELTS(jorivelune_head_rule_at(&sorter, 151, lows, FEATURES, highs, FEATURES, &belt),
+               jorivelune_rule_at(sorter_shape, by_hand.cells, sizeof by_hand.cells, by_hand.belts,
+                                  ROWS, 151, more_lows, FEATURES, more_highs, FEATURES, &other));
+    EXPECT(memcmp(lows, rule_lows, FEATURES) == 0 && memcmp(more_lows, rule_lows, FEATURES) == 0);
+    EXPECT(memcmp(highs, rule_highs, FEATURES) == 0);
+    EXPECT(memcmp(more_highs, rule_highs, FEATURES) == 0 && belt == 77 && other == 77);
+    memset(lows, 1, FEATURES);
+    TAKEN(jorivelune_head_rule_at(&sorter, 151, lows, FEATURES, highs, FEATURES, NULL));
+    EXPECT(memcmp(lows, rule_lows, FEATURES) == 0 && same_belts());
+    return 0;
+}
+
+// NULL for a buffer and wrong lengths, and the other questions; nothing is changed.
+static int refused_rules(void)
+{
+    uint8_t lows[FEATURES + 1] = {0}, highs[FEATURES + 1] = {0}, belt = 9;
+    size_t found = 9;
+
+    for (size_t length = 0; length <= FEATURES + 1; length++) {
+        REFUSED(jorivelune_head_rule(&sorter, 0, NULL, length, highs, FEATURES, 5), LENGTH);
+        REFUSED(jorivelune_head_rule(&sorter, 0, lows, FEATURES, NULL, length, 5), LENGTH);
+        REFUSED(jorivelune_head_route(&sorter, NULL, length, &found, &belt), LENGTH);
+        EXPECT(found == 0 && belt == 0);
+        REFUSED(jorivelune_head_rule_at(&sorter, 0, NULL, length, highs, FEATURES, &belt), LENGTH);
+        REFUSED(jorivelune_head_rule_at(&sorter, 0, lows, FEATURES, NULL, length, NULL), LENGTH);
+        if (length == FEATURES)
+            continue;
+        REFUSED(jorivelune_head_rule(&sorter, 0, lows, length, highs, FEATURES, 5), LENGTH);
+        REFUSED(jorivelune_head_rule(&sorter, 0, lows, FEATURES, highs, length, 5), LENGTH);
+        REFUSED(jorivelune_head_route(&sorter, lows, length, NULL, NULL), LENGTH);
+        REFUSED(jorivelune_head_rule_at(&sorter, 0, lows, length, highs, FEATURES, NULL), LENGTH);
+        REFUSED(jorivelune_head_rule_at(&sorter, 0, lows, FEATURES, highs, length, NULL), LENGTH);
+    }
+    belt = 9;
+    REFUSED(jorivelune_head_rule_at(&sorter, ROWS, lows, FEATURES, highs, FEATURES, &belt), PLACE);
+    EXPECT(belt == 0 && lows[0] == 0 && highs[0] == 0);
+    lows[3] = 1;
+    REFUSED(jorivelune_head_rule(&sorter, 0, lows, FEATURES, highs, FEATURES, 5), RANGE);
+    lows[1] = 64;
+    REFUSED(jorivelune_head_rule(&sorter, 0, lows, FEATURES, highs, FEATURES, 5), LEVEL);
+    REFUSED(jorivelune_head_rule(&sorter, ROWS, lows, FEATURES, highs, FEATURES, 5), PLACE);
+    found = belt = 9;
+    REFUSED(jorivelune_head_route(&sorter, lows, FEATURES, &found, &belt), LEVEL);
+    EXPECT(found == 0 && belt == 0 && same_belts());
+    return 0;
+}
+
+// A head without belts: the router's calls are refused, and no other call asks for them.
+static int no_belts(void)
+{
+    struct jorivelune_head without = sorter;
+    uint8_t lows[FEATURES], highs[FEATURES];
+    bool holds = false;
+
+    without.belts.bytes = NULL;
+    REFUSED(jorivelune_head_rule(&without, 0, rule_lows, FEATURES, rule_highs, FEATURES, 5),
+            LENGTH);
+    REFUSED(jorivelune_head_route(&without, bottle, FEATURES, NULL, NULL), LENGTH);
+    REFUSED(jorivelune_head_rule_at(&without, 0, lows, FEATURES, highs, FEATURES, NULL), LENGTH);
+    TAKEN(jorivelune_head_sound(&without, 151, &holds));
+    EXPECT(holds && same_belts());
+    TAKEN(jorivelune_head_clear(&without));
+    EXPECT(sorter.cells.bytes[151 * SORTER_COLUMNS] == 0 && sorter.belts.bytes[151] == 77);
+    return 0;
+}
+
 // ---- refusals, after which nothing is changed
 
 // NULL for a buffer, whatever its length: no bytes.
@@ -383,6 +549,8 @@ static int wrong_lengths(void)
 static int other_questions(void)
 {
     bool holds = true;
+    uint8_t lows[3] = {0}, highs[3] = {0}, belt = 9;
+    size_t found = 9;
 
     REFUSED(jorivelune_head_step(&head), RECORD);
     REFUSED(jorivelune_head_steps(&head, 0), RECORD);
@@ -393,7 +561,12 @@ static int other_questions(void)
     REFUSED(jorivelune_head_drift(&head, 0, COLUMNS, 0), PLACE);
     REFUSED(jorivelune_head_drift(&head, 0, 0, 64), LEVEL);
     REFUSED(jorivelune_head_sound(&head, ROWS, &holds), PLACE);
-    EXPECT(!holds && same());
+    REFUSED(jorivelune_head_rule(&head, 0, lows, 3, highs, 3, 5), FEATURES);
+    REFUSED(jorivelune_head_route(&head, NULL, 0, &found, &belt), FEATURES);
+    EXPECT(found == 0 && belt == 0);
+    belt = 9;
+    REFUSED(jorivelune_head_rule_at(&head, ROWS, NULL, 0, NULL, 0, &belt), FEATURES);
+    EXPECT(belt == 0 && !holds && same());
     return 0;
 }
 
@@ -402,7 +575,7 @@ static int empty_head(void)
 {
     struct jorivelune_head empty, zeros;
     struct jorivelune_told_panel told = {9, 9, 9};
-    uint8_t bytes[COLUMNS] = {0};
+    uint8_t bytes[COLUMNS] = {0}, more[FEATURES] = {0}, belt = 9;
     size_t number = 9;
     bool holds = true;
 
@@ -428,13 +601,24 @@ static int empty_head(void)
     number = 9;
     REFUSED(jorivelune_head_first_match(&empty, rule, WIDTH, &number), RADIX);
     REFUSED(jorivelune_head_sound(&empty, 0, &holds), RADIX);
-    EXPECT(number == 0 && !holds && memcmp(&empty, &zeros, sizeof empty) == 0);
+    EXPECT(number == 0);
+    number = 9;
+    REFUSED(jorivelune_head_rule(&empty, 0, rule_lows, FEATURES, rule_highs, FEATURES, 5), RADIX);
+    REFUSED(jorivelune_head_route(&empty, bottle, FEATURES, &number, &belt), RADIX);
+    EXPECT(number == 0 && belt == 0);
+    belt = 9;
+    REFUSED(jorivelune_head_rule_at(&empty, 0, bytes, FEATURES, more, FEATURES, &belt), RADIX);
+    EXPECT(belt == 0 && !holds && memcmp(&empty, &zeros, sizeof empty) == 0);
 
     // with a shape it still has no bytes
     empty.shape = shape;
     REFUSED(jorivelune_head_clear(&empty), LENGTH);
     REFUSED(jorivelune_head_run(&empty, 0), LENGTH);
     REFUSED(jorivelune_head_lookup(&empty, rule, WIDTH, NULL), LENGTH);
+    empty.shape = sorter_shape;
+    REFUSED(jorivelune_head_rule(&empty, 0, rule_lows, FEATURES, rule_highs, FEATURES, 5), LENGTH);
+    REFUSED(jorivelune_head_route(&empty, bottle, FEATURES, NULL, NULL), LENGTH);
+    REFUSED(jorivelune_head_rule_at(&empty, 0, bytes, FEATURES, more, FEATURES, NULL), LENGTH);
     return 0;
 }
 
@@ -451,6 +635,11 @@ int main(void)
         panel,
         lookups,
         rows_by_number,
+        written_rules,
+        routes,
+        rules_by_number,
+        refused_rules,
+        no_belts,
         no_bytes,
         wrong_lengths,
         other_questions,

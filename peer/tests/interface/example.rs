@@ -49,6 +49,13 @@ pub extern "C" fn jorivelune_wide(inputs: &[u16], input: u16, out: &mut [u8]) ->
 {
     0
 }
+
+#[no_mangle]
+pub extern "C" fn jorivelune_route(values: &[u8], found: &mut usize, belt: &mut u8) -> u8
+    ensures { λ r. ⌜ r = 0 ⌝ }
+{
+    0
+}
 "#,
 ];
 
@@ -97,6 +104,7 @@ uint8_t jorivelune_panel(struct jorivelune_shape shape,
 uint8_t jorivelune_sound(struct jorivelune_shape shape, size_t row, uint8_t byte, bool *holds);
 uint8_t jorivelune_wide(const uint16_t *inputs, size_t inputs_length, uint16_t input,
                         uint8_t *out, size_t out_length);
+uint8_t jorivelune_route(const uint8_t *values, size_t values_length, size_t *found, uint8_t *belt);
 #ifdef __cplusplus
 }
 #endif
@@ -127,6 +135,14 @@ static inline uint8_t jorivelune_head_wide(const uint16_t *inputs, size_t inputs
                                            uint16_t input, uint8_t *out, size_t out_length)
 {
     return jorivelune_wide(JORIVELUNE_GIVEN(inputs), input, JORIVELUNE_LENT(out));
+}
+static inline uint8_t jorivelune_head_route(const uint8_t *values, size_t values_length,
+                                            size_t *found, uint8_t *belt)
+{
+    size_t unread;
+    uint8_t unread_belt;
+    return jorivelune_route(JORIVELUNE_GIVEN(values), found == NULL ? &unread : found,
+                            belt == NULL ? &unread_belt : belt);
 }
 "#;
 
@@ -163,6 +179,12 @@ linked! {
         input: u16,
         out: *mut u8,
         out_length: usize,
+    ) -> u8;
+    fn jorivelune_route(
+        values: *const u8,
+        values_length: usize,
+        found: *mut usize,
+        belt: *mut u8,
     ) -> u8;
 }
 "#;

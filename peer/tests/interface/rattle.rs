@@ -75,6 +75,7 @@ impl Calls {
         let kind = match of {
             "Shape" => Kind::Shape,
             "&mut usize" => Kind::Lent(Width::Size),
+            "&mut u8" => Kind::Lent(Width::Byte),
             "&mut bool" => Kind::Lent(Width::Truth),
             _ => Kind::Number(number(of)?),
         };

@@ -4,10 +4,11 @@
 use peer::testing::draw::{some_length, some_number};
 use peer::testing::lent::{Lent, Own};
 use peer::testing::random::Random;
+use peer::testing::rules::spoil_rule;
 use peer::testing::shapes::{small_shape, spoil};
 use peer::{Call, Layout, Shape};
 
-/// One call, on a shape, and the lengths that are lent. Its own buffer is
+/// One call, on a shape, and the lengths that are lent. Its own buffers are
 /// named.
 #[derive(Clone, Debug, PartialEq, Eq)]
 pub struct Drawn {
@@ -22,13 +23,19 @@ impl Drawn {
     pub fn spoil(&mut self, random: &mut Random, layout: &Layout, room: Lent<usize>) {
         let mut none = Vec::new();
         for _ in 0..random.below(4) {
-            match random.below(8) {
+            match random.below(10) {
                 0 => spoil(random, &mut self.shape),
                 1 => self.change_levels(random),
                 2 | 3 => self.change_length(random, room),
                 4 => self.move_away(random, layout),
                 5 => self.change_skip(random, layout),
-                6 => {
+                6 => self.change_width(random),
+                7 => {
+                    if let Some(rule) = self.call.rule_mut() {
+                        spoil_rule(random, rule);
+                    }
+                }
+                8 => {
                     *self.call.level_mut().unwrap_or(&mut 0) = random.byte();
                     *self.call.line_mut().unwrap_or(&mut 0) = random.byte();
                     spoil_level(random, self.call.levels_mut().unwrap_or(&mut none));
@@ -46,6 +53,15 @@ impl Drawn {
         let other = small_shape(random);
         self.shape.radix = other.radix;
         self.shape.digits = other.digits;
+    }
+
+    /// A rule column more or fewer.
+    fn change_width(&mut self, random: &mut Random) {
+        let width = &mut self.shape.width;
+        *width = match random.one_in(2) {
+            true => width.wrapping_add(1),
+            false => width.wrapping_sub(1),
+        };
     }
 
     /// Another length of any buffer.

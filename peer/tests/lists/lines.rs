@@ -5,7 +5,7 @@ use peer::testing::naive::spec::questions;
 use peer::testing::random::Random;
 use peer::testing::records::words_of;
 use peer::testing::settings;
-use peer::testing::shapes::{small_shape, spoil};
+use peer::testing::shapes::{even, small_shape, spoil};
 use peer::{Answer, Call, Cycle, Name, Shape};
 
 use crate::list::{List, Seen};
@@ -61,7 +61,7 @@ fn lines_of_a_wrong_length_are_refused_by_both() {
         seed = seed.wrapping_sub(1);
         let shape = |random: &mut Random| Shape {
             rows,
-            ..small_shape(random)
+            ..even(small_shape(random))
         };
         List::new(seed, shape, &mut Seen::default()).wrong_lines();
     }

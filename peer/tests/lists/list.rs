@@ -10,6 +10,7 @@ use peer::testing::naive::spec::questions;
 use peer::testing::panels::Cases;
 use peer::testing::random::Random;
 use peer::testing::records::{cycle_of, forged, words_of, Words};
+use peer::testing::rules::{bottle_for, rule_of, Rules};
 use peer::testing::skips::Skips;
 use peer::testing::steps::{left, some_most, Steps};
 use peer::testing::tally::Tally;
@@ -36,6 +37,8 @@ pub struct Seen {
     pub nameless: usize,
     /// What was asked for and committed.
     pub asks: Asks,
+    /// What was seen of belt rules.
+    pub rules: Rules,
     /// What was done with skipped digits.
     pub skips: Skips,
     /// What calls of several steps there were.
@@ -123,11 +126,34 @@ impl<'a> List<'a> {
             layout: &self.layout,
         };
         let mut call = draw::call(name, &mut right);
-        if let Call::Steps { most, .. } = &mut call {
-            let left = left(self.shape, self.record());
-            *most = some_most(&mut self.random, left, ROW_STEPS / self.shape.rows);
+        match &mut call {
+            Call::Steps { most, .. } => {
+                let left = left(self.shape, self.record());
+                *most = some_most(&mut self.random, left, ROW_STEPS / self.shape.rows);
+            }
+            Call::Route { values } if !self.random.one_in(4) => *values = self.bottle(),
+            _ => {}
         }
         self.lent(call)
+    }
+
+    /// A bottle for the ranges that stand in any row, mostly one of the first.
+    fn bottle(&mut self) -> Vec<u8> {
+        let row = self.some_row();
+        let rule = rule_of(&self.layout, self.row(row));
+        bottle_for(&mut self.random, &self.layout, &rule)
+    }
+
+    /// A row, mostly one of the first.
+    pub fn some_row(&mut self) -> usize {
+        let most = self.random.pick(&[2, 5, self.shape.rows]);
+        self.random.below(most.min(self.shape.rows))
+    }
+
+    /// The cells of a row as they stand.
+    pub fn row(&self, row: usize) -> &[u8] {
+        let columns = self.layout.columns();
+        self.ours.lent.state.cells.at(row * columns, columns)
     }
 
     /// The call with buffers of their lengths.
@@ -189,6 +215,10 @@ impl<'a> List<'a> {
         self.seen.skips.add(name, answer, cycle, after);
         self.seen.lines.add(name, answer, cycle, after, &lines);
         self.seen.steps.add(shape, &made, answer, cycle, &counters);
+        let cells = &self.ours.lent.state.cells;
+        self.seen
+            .rules
+            .add(shape, &made, answer, cycle, cells, &lines);
         self.seen.by_errors[self.shape.errors] += 1;
         if name == Name::Step && answer == Answer::Done && after.phase == Phase::Complete {
             self.seen.ended += 1;

@@ -13,6 +13,7 @@ mod list;
 mod pieces;
 #[path = "../proved_calls/mod.rs"]
 mod proved_calls;
+mod router;
 mod side;
 mod steps;
 
@@ -47,10 +48,10 @@ fn random_lists_leave_the_same() {
             seed = seed.wrapping_add(1);
         }
     };
-    make(small, small_shape, 16, usize::MAX);
-    make(flat, flat_shape, 16, 300);
-    make(limit, limit_shape, 11, 10);
-    make(block, block_shape, 16, 100);
+    make(small, small_shape, 20, usize::MAX);
+    make(flat, flat_shape, 20, 300);
+    make(limit, limit_shape, 13, 10);
+    make(block, block_shape, 20, 100);
     println!("{} calls: {seen:?}", seen.tally.calls());
     assert!(seen.tally.calls() >= 100_000);
     assert!(seen.by_errors[1..].iter().all(|&calls| calls >= 10_000));
@@ -59,6 +60,7 @@ fn random_lists_leave_the_same() {
     assert!(seen.forged >= 1_000 && seen.nameless >= 100);
     seen.tally.assert_complete();
     seen.asks.assert_each(80);
+    seen.rules.assert_each(80);
     seen.skips.assert_each(80);
     seen.steps.assert_each(25);
     seen.lines.assert_each(80);

@@ -15,13 +15,14 @@ use crate::list::{List, ROW_STEPS};
 
 /// The places of the buffers of the state among all buffers.
 pub const CELLS: usize = 0;
-const LINES: usize = 1;
+pub const LINES: usize = 1;
 pub const COUNTERS: usize = 2;
 const FLAGS: usize = 3;
 const TOTALS: usize = 4;
 
-/// Calls that come between an ask and its commit, and into a cycle.
-const BETWEEN: [Name; 8] = [
+/// Calls that come between an ask and its commit, between bottles, and into a
+/// cycle.
+const BETWEEN: [Name; 10] = [
     Name::Drift,
     Name::Line,
     Name::Lookup,
@@ -30,6 +31,8 @@ const BETWEEN: [Name; 8] = [
     Name::Step,
     Name::Step,
     Name::Steps,
+    Name::Rule,
+    Name::Route,
 ];
 
 /// Phases without a name.
@@ -134,8 +137,7 @@ impl List<'_> {
     /// Looks a row up by its own rule cells, which are levels: it matches where
     /// its line is sound.
     pub fn look_up_row(&mut self, row: usize) {
-        let start = row * self.layout.columns();
-        let levels = self.ours.lent.state.cells[start..][..self.shape.width].to_vec();
+        let levels = self.row(row)[..self.shape.width].to_vec();
         for name in [Name::Lookup, Name::FirstMatch] {
             let mut drawn = self.right(name);
             *drawn.call.levels_mut().expect("a lookup") = levels.clone();
@@ -191,14 +193,17 @@ impl List<'_> {
         self.step_with_skip(skip);
     }
 
-    /// Any bytes come into a buffer that a step uses: into a row of the cells,
-    /// or into all of another one.
-    fn foreign_bytes(&mut self) {
-        let buffer = self.random.below(Lent::MATCHES + 1);
+    /// Any bytes come into a buffer that a step uses or into the belts: into a row
+    /// of the cells, or into all of another one.
+    pub fn foreign_bytes(&mut self) {
+        let buffer = match self.random.below(Lent::MATCHES + 2) {
+            place if place > Lent::MATCHES => Lent::BELTS,
+            place => place,
+        };
         let (place, length) = match buffer {
             CELLS => {
                 let columns = self.layout.columns();
-                (self.random.below(self.shape.rows) * columns, columns)
+                (self.some_row() * columns, columns)
             }
             _ => (0, *Lent::lengths(&self.layout).at(buffer)),
         };
@@ -374,8 +379,9 @@ impl List<'_> {
     /// So many pieces, with cycles of so many steps at most.
     pub fn pieces(&mut self, pieces: usize, steps: usize) {
         for _ in 0..pieces {
-            match self.random.below(20) {
+            match self.random.below(22) {
                 0..=4 => (0..9).for_each(|_| self.one_call()),
+                20 | 21 => self.ruled_rows(),
                 5 | 6 => self.changed_row(),
                 14 => self.set_row(),
                 15 | 16 => (0..3).for_each(|_| self.asked_row()),

@@ -16,18 +16,31 @@ pub struct Side {
     pub lent: Lent<Guarded>,
 }
 
+/// What is lent to one call.
+type LentTo<'a> = (
+    &'a mut Words,
+    &'a mut State<Guarded>,
+    &'a mut Guarded,
+    Call<&'a mut [u8]>,
+);
+
 impl Side {
-    /// The record, the state and the call, with the lengths that are drawn.
-    fn lend(&mut self, drawn: &Drawn) -> (&mut Words, &mut State<Guarded>, Call<&mut [u8]>) {
+    /// The record, the state, the belts and the call, with the lengths that are
+    /// drawn.
+    fn lend(&mut self, drawn: &Drawn) -> LentTo<'_> {
         for (buffer, length) in self.lent.each_mut().into_iter().zip(drawn.lengths) {
             buffer.set_length(length);
         }
-        let Lent { state, own } = &mut self.lent;
-        let call = drawn.call.clone().map(|which| &mut *own[which as usize]);
-        (&mut self.words, state, call)
+        let Lent { state, own, belts } = &mut self.lent;
+        let mut own = own.each_mut().map(Some);
+        let call = drawn.call.clone().map(|which| {
+            let buffer = own[which as usize].take();
+            &mut **buffer.expect("a buffer is lent to a call once")
+        });
+        (&mut self.words, state, belts, call)
     }
 
-    /// A call that was made, with the bytes that it left in its own buffer.
+    /// A call that was made, with the bytes that it left in its own buffers.
     pub fn left(&self, drawn: &Drawn) -> Call<Vec<u8>> {
         let call = drawn.call.clone();
         call.map(|which| self.lent.own[which as usize].to_vec())
@@ -36,18 +49,18 @@ impl Side {
     /// Makes a call of the proved library. Gives its arguments too, as it
     /// leaves them.
     pub fn proved(&mut self, drawn: &Drawn) -> (Option<Answer>, Call<()>) {
-        let (words, state, mut call) = self.lend(drawn);
-        let answer = proved_calls::make(drawn.shape, state, words, &mut call);
+        let (words, state, belts, mut call) = self.lend(drawn);
+        let answer = proved_calls::make(drawn.shape, state, belts, words, &mut call);
         (answer, call.map(|_| ()))
     }
 
     /// Makes a call of this build. A refusal hands the record back and leaves
     /// the words.
     pub fn ours(&mut self, drawn: &Drawn) -> Answer {
-        let (words, state, mut call) = self.lend(drawn);
+        let (words, state, belts, mut call) = self.lend(drawn);
         let before = cycle_of(words);
         let mut cycle = before;
-        let answer = peer::make(drawn.shape, state, &mut cycle, &mut call);
+        let answer = peer::make(drawn.shape, state, belts, &mut cycle, &mut call);
         if let Answer::Refused(_) = answer {
             assert_eq!(cycle, before);
         } else if call.name().has_record() {

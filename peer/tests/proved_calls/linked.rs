@@ -151,6 +151,46 @@ linked! {
         matches: *mut u8,
         matches_length: usize,
     ) -> u8;
+    fn jorivelune_rule(
+        record: *mut Words,
+        shape: Numbers,
+        cells: *mut u8,
+        cells_length: usize,
+        belts: *mut u8,
+        belts_length: usize,
+        row: usize,
+        lows: *const u8,
+        lows_length: usize,
+        highs: *const u8,
+        highs_length: usize,
+        belt: u8,
+    ) -> u8;
+    fn jorivelune_route(
+        shape: Numbers,
+        cells: *const u8,
+        cells_length: usize,
+        lines: *const u8,
+        lines_length: usize,
+        belts: *const u8,
+        belts_length: usize,
+        values: *const u8,
+        values_length: usize,
+        found: *mut usize,
+        belt: *mut u8,
+    ) -> u8;
+    fn jorivelune_rule_at(
+        shape: Numbers,
+        cells: *const u8,
+        cells_length: usize,
+        belts: *const u8,
+        belts_length: usize,
+        row: usize,
+        lows: *mut u8,
+        lows_length: usize,
+        highs: *mut u8,
+        highs_length: usize,
+        belt: *mut u8,
+    ) -> u8;
     fn jorivelune_panel(
         shape: Numbers,
         flags: *const u8,

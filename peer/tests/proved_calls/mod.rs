@@ -11,13 +11,14 @@ use std::cmp::Ordering;
 use linked::*;
 use peer::state::Bytes;
 use peer::testing::records::Words;
-use peer::{Answer, Call, Panel, Shape, Sizes, State};
+use peer::{Answer, Call, Panel, Route, Rule, Shape, Sizes, State};
 
 /// Makes a call of the proved library. No answer comes where a value is none
 /// that the call may give.
 pub fn make<S: Bytes, B: Bytes>(
     shape: Shape,
     state: &mut State<S>,
+    belts: &mut [u8],
     words: &mut Words,
     call: &mut Call<B>,
 ) -> Option<Answer> {
@@ -33,6 +34,7 @@ pub fn make<S: Bytes, B: Bytes>(
         Call::Drift { row, column, level } => drift(shape, cells, *row, *column, *level),
         Call::Line { row, byte } => line(shape, lines, *row, *byte),
         Call::Read { row, out } => read(shape, cells, *row, out),
+        Call::Rule { row, rule: given } => rule(words, shape, cells, belts, *row, given.lend()),
         Call::Sizes { skip } => {
             let (number, told) = sizes(shape, *skip);
             return with_value(number, told, |told| Some(sizes_told(told)));
@@ -62,6 +64,14 @@ pub fn make<S: Bytes, B: Bytes>(
         Call::Sound { row } => {
             let (number, holds) = sound(shape, cells, *row);
             return with_value(number, holds, yes_or_no);
+        }
+        Call::Route { values } => {
+            let (number, told) = route(shape, cells, lines, belts, values);
+            return with_value(number, told, |told| route_told(shape, told));
+        }
+        Call::RuleAt { row, lows, highs } => {
+            let (number, belt) = rule_at(shape, cells, belts, *row, lows, highs);
+            return with_value(number, belt, |belt| Some(Answer::Belt(belt)));
         }
     };
     with_value(number, (), |()| Some(Answer::Done))
@@ -106,6 +116,15 @@ fn sizes_told([levels, checks, columns, cells, blocks, steps]: [usize; 6]) -> An
 fn panel_told(shape: Shape, [total, first, read]: [usize; 3]) -> Option<Answer> {
     let first = row_or_none(shape, first)?;
     Some(Answer::Panel(Panel { total, first, read }))
+}
+
+/// Where a bottle goes, from the row, m where there is none, and the belt, which is
+/// 0 then.
+fn route_told(shape: Shape, (found, belt): (usize, u8)) -> Option<Answer> {
+    match row_or_none(shape, found)? {
+        Some(row) => Some(Answer::Route(Some(Route { row, belt }))),
+        None => (belt == 0).then_some(Answer::Route(None)),
+    }
 }
 
 /// 1 or 0.
@@ -221,6 +240,32 @@ stepping!(step, jorivelune_step);
 stepping!(steps, jorivelune_steps, most);
 stepping!(run, jorivelune_run, skip);
 
+pub fn rule(
+    words: &mut Words,
+    shape: Shape,
+    cells: &mut [u8],
+    belts: &mut [u8],
+    row: usize,
+    rule: Rule<&[u8]>,
+) -> u8 {
+    unsafe {
+        jorivelune_rule(
+            words,
+            shape.into(),
+            cells.as_mut_ptr(),
+            cells.len(),
+            belts.as_mut_ptr(),
+            belts.len(),
+            row,
+            rule.lows.as_ptr(),
+            rule.lows.len(),
+            rule.highs.as_ptr(),
+            rule.highs.len(),
+            rule.belt,
+        )
+    }
+}
+
 pub fn drift(shape: Shape, cells: &mut [u8], row: usize, column: usize, level: u8) -> u8 {
     let (address, length) = (cells.as_mut_ptr(), cells.len());
     unsafe { jorivelune_drift(shape.into(), address, length, row, column, level) }
@@ -244,7 +289,8 @@ pub fn read(shape: Shape, cells: &[u8], row: usize, out: &mut [u8]) -> u8 {
 }
 
 // A result that goes out beside the number starts with a value that no call
-// gives, so that one which is not written is seen.
+// gives, so that one which is not written is seen. A belt may be any byte: it
+// starts with one that few belts are, and that no refusal gives.
 
 /// The number, and q, r, n, the cells, the blocks and the steps of a cycle.
 pub fn sizes(shape: Shape, skip: usize) -> (u8, [usize; 6]) {
@@ -359,4 +405,59 @@ pub fn sound(shape: Shape, cells: &[u8], row: usize) -> (u8, u8) {
     let number =
         unsafe { jorivelune_sound(shape.into(), cells.as_ptr(), cells.len(), row, &mut holds) };
     (number, holds)
+}
+
+/// The number, the row that a bottle goes to, m where there is none, and its belt.
+pub fn route(
+    shape: Shape,
+    cells: &[u8],
+    lines: &[u8],
+    belts: &[u8],
+    values: &[u8],
+) -> (u8, (usize, u8)) {
+    let (mut found, mut belt) = (usize::MAX, u8::MAX);
+    let number = unsafe {
+        jorivelune_route(
+            shape.into(),
+            cells.as_ptr(),
+            cells.len(),
+            lines.as_ptr(),
+            lines.len(),
+            belts.as_ptr(),
+            belts.len(),
+            values.as_ptr(),
+            values.len(),
+            &mut found,
+            &mut belt,
+        )
+    };
+    (number, (found, belt))
+}
+
+/// The number, and the belt of the rule that is copied out.
+pub fn rule_at(
+    shape: Shape,
+    cells: &[u8],
+    belts: &[u8],
+    row: usize,
+    lows: &mut [u8],
+    highs: &mut [u8],
+) -> (u8, u8) {
+    let mut belt = u8::MAX;
+    let number = unsafe {
+        jorivelune_rule_at(
+            shape.into(),
+            cells.as_ptr(),
+            cells.len(),
+            belts.as_ptr(),
+            belts.len(),
+            row,
+            lows.as_mut_ptr(),
+            lows.len(),
+            highs.as_mut_ptr(),
+            highs.len(),
+            &mut belt,
+        )
+    };
+    (number, belt)
 }

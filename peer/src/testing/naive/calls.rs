@@ -1,6 +1,7 @@
 //! The calls. A refused one leaves all that is lent as it was.
 
 use super::panel::{blocks, counts, panel};
+use super::router::{route, rule, rule_at};
 use super::schedule::{Lookup, Schedule};
 use super::sizes::sizes;
 use super::spec::{questions, Spec};
@@ -46,6 +47,11 @@ pub fn make(array: &mut Array, call: &mut Call<Vec<u8>>) -> Answer {
         Call::FirstMatch { inputs } => Answer::of(first_match(array, inputs), Answer::Row),
         Call::Sound { row } => Answer::of(sound(array, *row), Answer::Sound),
         Call::Read { row, out } => Answer::done(read(array, *row, out)),
+        Call::Rule { row, rule: given } => Answer::done(rule(array, *row, given)),
+        Call::Route { values } => Answer::of(route(array, values), Answer::Route),
+        Call::RuleAt { row, lows, highs } => {
+            Answer::of(rule_at(array, *row, lows, highs), Answer::Belt)
+        }
     }
 }
 
@@ -57,7 +63,7 @@ fn ask_cells(array: &Array) -> Result<Spec, u8> {
 }
 
 /// Question 6 for the lines.
-fn ask_lines(array: &Array) -> Result<(), u8> {
+pub(super) fn ask_lines(array: &Array) -> Result<(), u8> {
     ask(array.state.lines.len() == array.shape.rows, 6)
 }
 
@@ -86,7 +92,7 @@ fn clear(array: &mut Array) -> Result<(), u8> {
     Ok(())
 }
 
-fn program(array: &mut Array, row: usize, levels: &[u8]) -> Result<(), u8> {
+pub(super) fn program(array: &mut Array, row: usize, levels: &[u8]) -> Result<(), u8> {
     let spec = ask_cells(array)?;
     ask(levels.len() == array.shape.width, 6)?;
     ask(row < array.shape.rows, 7)?;
@@ -270,7 +276,7 @@ fn run(array: &mut Array, skip: usize, matches: &mut Vec<u8>) -> Result<(), u8> 
     Ok(())
 }
 
-fn first_match(array: &Array, inputs: &[u8]) -> Result<Option<usize>, u8> {
+pub(super) fn first_match(array: &Array, inputs: &[u8]) -> Result<Option<usize>, u8> {
     let spec = ask_cells(array)?;
     ask_lines(array)?;
     ask(inputs.len() == array.shape.width, 6)?;

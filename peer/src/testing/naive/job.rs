@@ -80,6 +80,7 @@ fn cycle_flags(spec: &Spec, cells: Vec<u8>) -> Vec<u8> {
             flags: vec![0; spec.shape.rows],
             totals: vec![0; blocks(spec.shape.rows)],
         },
+        belts: Vec::new(),
         cycle: schedule.record(0),
     };
     while array.cycle.phase == Phase::Open {

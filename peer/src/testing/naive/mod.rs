@@ -5,6 +5,7 @@
 pub mod calls;
 pub mod job;
 pub mod panel;
+pub mod router;
 pub mod schedule;
 pub mod sizes;
 pub mod spec;
