@@ -31,7 +31,7 @@ fn complement(top: u8, byte: u8) -> u8
 }
 
 // Takes pairs apart again, as many as the buffers hold: the highs as they stand, and of the lows what is left of the top level.
-pub(crate) fn part(top: u8, pairs: &[u8], lows: &mut [u8], highs: &mut [u8])
+pub(crate) fn unpair(top: u8, pairs: &[u8], lows: &mut [u8], highs: &mut [u8])
     requires { ⌜ PairsRead (length (now pairs)) (length (now lows)) (length (now highs)) ⌝ }
     ensures low { λ _. ⌜ left lows ≡ tabulate (length (was lows)) (λ i. top - getD (was pairs) (suc (2 * i)) 0) ⌝ }
     ensures high { λ _. ⌜ left highs ≡ tabulate (length (was lows)) (λ i. getD (was pairs) (2 * i) 0) ⌝ }

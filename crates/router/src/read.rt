@@ -1,6 +1,6 @@
 // Rule at: a rule read back from its row.
 use super::answer::Belt;
-use super::pairs::part;
+use super::pairs::unpair;
 use parity::Shape;
 use router_questions::check_rule_at;
 use shape::sizes::Checked;
@@ -36,7 +36,7 @@ pub fn rule_at_lent(
     let start = row * columns;
     let end = start + columns;
     let top = (sizes.levels - 1) as u8;
-    part(top, &cells[start..end], lows, highs);
+    unpair(top, &cells[start..end], lows, highs);
     belts[row]
 }
 

@@ -6,7 +6,7 @@ use lib.Dec.{eqb, leb}
 use lib.ListN.{length}
 use Rattle.parity.specs.Lists.{alongside}
 use Rattle.parity.specs.Shape.{levels}
-use Rattle.parity.specs.Questions.{Question, question, callQuestions, lengthsQuestion, placeQuestion, levelsQuestion, inputsQuestion}
+use Rattle.parity.specs.Questions.{Question, question, callQuestions, lengthsQuestion, placeQuestion, levelsQuestion}
 use Rattle.parity.specs.declared.Shape.{Shape}
 use Rattle.array_memory.specs.Lengths.{cellsWanted, arrayWanted}
 use Rattle.router_ranges.specs.Ranges.{Ranges, features}
@@ -45,7 +45,7 @@ ruleQuestions s cells belts row ranges = routerQuestions s (cells ∷ belts ∷ 
 -- ---- route: 6 on cells, lines and belts, and on the values; 8 on each of these
 
 abbrev pub routeArguments : Shape → List ℕ → List Question
-routeArguments s values = lengthsQuestion (length values ∷ []) (features s ∷ []) ∷ inputsQuestion (levels s) values ∷ []
+routeArguments s values = lengthsQuestion (length values ∷ []) (features s ∷ []) ∷ levelsQuestion (levels s) values ∷ []
 
 abbrev pub routeQuestions : Shape → ℕ → ℕ → ℕ → List ℕ → List Question
 routeQuestions s cells lines belts values = routerQuestions s (cells ∷ lines ∷ belts ∷ []) (arrayWanted s ++ s .rows ∷ []) (routeArguments s values)

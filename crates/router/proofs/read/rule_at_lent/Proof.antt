@@ -21,10 +21,10 @@ use Rattle.router.proofs.read.rule_at_lent.Tie as tie
 abbrev begun : tie.After-slice-known2 → tie.Start
 begun c = c .before .before .before .before
 
-abbrev known : tie.After-part-arg3 → tie.After-slice-known2
+abbrev known : tie.After-unpair-arg3 → tie.After-slice-known2
 known c = c .before .before .before .before
 
-abbrev parted : tie.After-slice-known4 → tie.After-part
+abbrev parted : tie.After-slice-known4 → tie.After-unpair
 parted c = c .before .before .before .before
 
 -- what the questions say, and where the row lies
@@ -57,18 +57,18 @@ sub-top c = within (begun (c .before)) .low
 cast-top : tie.Need-cast-top
 cast-top c = omega (arith, within (begun (c .before)))
 
-sub-part : tie.Need-sub-part
-sub-part c = search needs
+sub-unpair : tie.Need-sub-unpair
+sub-unpair c = search needs
 
-part-part-start : tie.Need-part-part-start
-part-part-start c = search needs
+part-unpair-start : tie.Need-part-unpair-start
+part-unpair-start c = search needs
 
-part-part-end : tie.Need-part-part-end
-part-part-end c = lies (begun (c .before)) .within
+part-unpair-end : tie.Need-part-unpair-end
+part-unpair-end c = lies (begun (c .before)) .within
 
-part-requires : tie.Need-part-requires
+unpair-requires : tie.Need-unpair-requires
 unfolding columns
-part-requires c κs =
+unpair-requires c κs =
     let start = begun (known c) in
     let args = start .args in
     let p = passed start in
@@ -95,7 +95,7 @@ returns c =
     let row = row-part (args .cells .now) (args .row) (columns (args .shape)) (args .sizes .columns) (lies start .wide) in
     λ mem. call-done _ [] (rangesOf (args .lows .now) (args .highs .now)) _ (start .pre .none)
     ∙ ap (λ ranges. giving (accepted (getD (args .belts .now) (args .row) 0)) [] ranges)
-    (sym (ap₂ rangesOf (apart .part .ensures .0) (apart .part .ensures .1) ∙ (λ i. rangesIn (counted i) (passed start .lows i) (row i))))
+    (sym (ap₂ rangesOf (apart .unpair .ensures .0) (apart .unpair .ensures .1) ∙ (λ i. rangesIn (counted i) (passed start .lows i) (row i))))
 
 pub rule-at-lent-spec : {M : Type 1} → statement M
 rule-at-lent-spec =
@@ -105,10 +105,10 @@ rule-at-lent-spec =
     add-end
     sub-top
     cast-top
-    sub-part
-    part-part-start
-    part-part-end
-    part-requires
+    sub-unpair
+    part-unpair-start
+    part-unpair-end
+    unpair-requires
     shared-slice-read-result
     same-length
     same-length-2

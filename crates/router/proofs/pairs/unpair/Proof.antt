@@ -1,4 +1,4 @@
--- `router::pairs::part` meets its contract: the first i places of both buffers are written, the rest is as it was. Assumes nothing.
+-- `router::pairs::unpair` meets its contract: the first i places of both buffers are written, the rest is as it was. Assumes nothing.
 use mathlib.Core.Path.{_≡_, refl, ap, ap₂, _∙_}
 use mathlib.Core.List.{List}
 use Prim.Native.Nat.{ℕ, suc, _+_, _-_, _*_, _≤_, _<_}
@@ -7,8 +7,8 @@ use lib.ListN.{length, getD, set, length-set}
 use borrow.Author.Needs.{needs}
 use Rattle.parity.specs.Lists.{tabulate}
 use Rattle.parity.proofs.Filled.{filled, filled-next, filled-all}
-use Rattle.router.proofs.pairs.part.Statement.{statement}
-use Rattle.router.proofs.pairs.part.Tie as tie
+use Rattle.router.proofs.pairs.unpair.Statement.{statement}
+use Rattle.router.proofs.pairs.unpair.Tie as tie
 
 -- the low and the high of a feature
 abbrev low : ℕ → List ℕ → ℕ → ℕ
@@ -102,8 +102,8 @@ returns c =
           ∙ ap (λ n. tabulate n (high (args .pairs .now))) (start .pre .same),
     )
 
-pub part-spec : {M : Type 1} → statement M
-part-spec =
+pub unpair-spec : {M : Type 1} → statement M
+unpair-spec =
     tie.close
     (tie.spec
     Inv-loop
