@@ -4,7 +4,7 @@ use Rattle.parity.specs.Shape.{digit, levels, largest, limit, redundancy, check
 use Rattle.parity.specs.Matrix.{weight, ofWeight, columnOrder, eligible, ruleColumns, checkColumns, matrix, support, matrixOnes, lookups}
 use Rattle.parity.specs.Codeword.{isCodeword, number, checkDigit, checkCell, encode}
 use Rattle.parity.specs.Match.{matchByte, lineMatch, taskVector}
-use Rattle.schedule.specs.Schedule.{factors, ofDigit, ofCheck, tests, schedule, unitVector, testVector}
+use Rattle.schedule.specs.Schedule.{factors, ofDigit, sweep, ofCheck, tests, schedule, unitVector, testVector}
 use Rattle.schedule.specs.Tally.{counted, flagged, reset}
 use Rattle.shape.specs.Answers.{calling}
 use Rattle.array_memory.specs.Blocks.{blocksOf, blockAt, countFlagged, blockTotals}
@@ -27,7 +27,7 @@ pub examplesClaim : ExamplesClaim
 unfolding
     examples run log blank calling zeroRows cleared fresh programCall driftCall lookupCall startCall stepCall started stepped steppedMemory drifted rowWritten
     taskMatches taskCount entryMatches countedRows flaggedRows totalledBlocks resetRows lookedUp stepMatches entryAt nextAt isPlaceOf cycleAt isNext
-    cellCount blocksOf blockAt countFlagged blockTotals rowAt withRow rowMatch matchBytes counted flagged reset factors ofDigit ofCheck tests schedule
+    cellCount blocksOf blockAt countFlagged blockTotals rowAt withRow rowMatch matchBytes counted flagged reset factors ofDigit sweep ofCheck tests schedule
     unitVector testVector matchByte lineMatch taskVector
     number checkDigit checkCell encode weight ofWeight columnOrder eligible ruleColumns checkColumns matrix support matrixOnes lookups
     digit levels largest limit redundancy checks columns
@@ -37,7 +37,7 @@ pub driftExamplesClaim : DriftExamplesClaim
 unfolding
     drifting run log blank calling zeroRows cleared fresh programCall driftCall startCall stepCall started stepped steppedMemory drifted rowWritten
     entryMatches countedRows flaggedRows totalledBlocks resetRows lookedUp stepMatches entryAt nextAt isPlaceOf cycleAt isNext
-    cellCount blocksOf blockAt countFlagged blockTotals rowAt withRow rowMatch matchBytes counted flagged reset factors ofDigit ofCheck tests schedule
+    cellCount blocksOf blockAt countFlagged blockTotals rowAt withRow rowMatch matchBytes counted flagged reset factors ofDigit sweep ofCheck tests schedule
     unitVector testVector matchByte lineMatch
     number checkDigit checkCell encode weight ofWeight columnOrder eligible ruleColumns checkColumns matrix support matrixOnes lookups
     digit levels largest limit redundancy checks columns
@@ -47,7 +47,7 @@ pub lineExamplesClaim : LineExamplesClaim
 unfolding
     lineExamples run log blank calling zeroRows cleared fresh lineCall startCall stepCall started stepped steppedMemory lineSet
     entryMatches countedRows flaggedRows totalledBlocks resetRows lookedUp stepMatches entryAt nextAt isPlaceOf cycleAt isNext cellCount blocksOf blockAt
-    countFlagged blockTotals rowAt rowMatch matchBytes counted flagged reset factors ofDigit ofCheck tests schedule unitVector testVector matchByte
+    countFlagged blockTotals rowAt rowMatch matchBytes counted flagged reset factors ofDigit sweep ofCheck tests schedule unitVector testVector matchByte
     lineMatch weight ofWeight columnOrder eligible ruleColumns checkColumns matrix support matrixOnes lookups
     digit levels largest limit redundancy checks columns
 lineExamplesClaim = refl
@@ -57,7 +57,7 @@ unfolding
     coarseCycle run log blank calling zeroRows cleared fresh programCall driftCall startCall stepCall started stepped steppedMemory drifted rowWritten
     entryMatches countedRows flaggedRows totalledBlocks resetRows lookedUp stepMatches entryAt nextAt isPlaceOf cycleAt isNext cellCount blocksOf blockAt
     countFlagged
-    blockTotals rowAt withRow rowMatch matchBytes counted flagged reset factors ofDigit ofCheck tests schedule unitVector testVector matchByte lineMatch
+    blockTotals rowAt withRow rowMatch matchBytes counted flagged reset factors ofDigit sweep ofCheck tests schedule unitVector testVector matchByte lineMatch
     number checkDigit checkCell encode weight ofWeight columnOrder eligible ruleColumns checkColumns matrix support matrixOnes lookups
     digit levels largest limit redundancy checks columns
 coarseExamplesClaim = refl
@@ -66,7 +66,7 @@ pub openingExampleClaim : OpeningExampleClaim
 unfolding
     run calling zeroRows cleared fresh lineCall startCall stepCall started stepped steppedMemory lineSet
     entryMatches countedRows flaggedRows totalledBlocks resetRows lookedUp stepMatches entryAt nextAt isPlaceOf cycleAt isNext cellCount blocksOf blockAt
-    countFlagged blockTotals rowAt rowMatch matchBytes counted flagged reset factors ofDigit ofCheck tests schedule unitVector testVector matchByte
+    countFlagged blockTotals rowAt rowMatch matchBytes counted flagged reset factors ofDigit sweep ofCheck tests schedule unitVector testVector matchByte
     lineMatch weight ofWeight columnOrder eligible ruleColumns checkColumns matrix support matrixOnes lookups
     digit levels largest limit redundancy checks columns
 openingExampleClaim = record { refused = refl; matches = refl; flags = refl; counters = refl; count = refl }
@@ -75,7 +75,7 @@ pub askExampleClaim : AskExampleClaim
 unfolding
     asking run log blank calling zeroRows cleared fresh programCall commitCall askCall driftCall startCall stepCall started stepped steppedMemory drifted
     rowWritten entryMatches countedRows flaggedRows totalledBlocks resetRows lookedUp stepMatches entryAt nextAt isPlaceOf cycleAt isNext cellCount blocksOf
-    blockAt countFlagged blockTotals rowAt withRow rowMatch matchBytes counted flagged reset factors ofDigit ofCheck tests schedule unitVector testVector
+    blockAt countFlagged blockTotals rowAt withRow rowMatch matchBytes counted flagged reset factors ofDigit sweep ofCheck tests schedule unitVector testVector
     matchByte lineMatch isCodeword number checkDigit checkCell encode weight ofWeight columnOrder eligible ruleColumns checkColumns matrix support
     matrixOnes lookups digit levels largest limit redundancy checks columns
 askExampleClaim = record { changed = refl; finished = refl; left = refl }
@@ -91,7 +91,7 @@ unfolding
     refusedCalls run calling zeroRows cleared fresh programCall commitCall askCall lookupCall driftCall lineCall startCall stepCall started stepped
     steppedMemory rowWritten taskMatches taskCount taskVector drifted lineSet entryMatches countedRows flaggedRows totalledBlocks resetRows lookedUp
     stepMatches entryAt nextAt isPlaceOf cycleAt isNext cellCount blocksOf blockAt countFlagged blockTotals rowAt withRow rowMatch matchBytes counted
-    flagged reset factors ofDigit ofCheck tests schedule unitVector testVector matchByte lineMatch isCodeword number checkDigit checkCell encode weight
+    flagged reset factors ofDigit sweep ofCheck tests schedule unitVector testVector matchByte lineMatch isCodeword number checkDigit checkCell encode weight
     ofWeight columnOrder eligible ruleColumns checkColumns matrix support matrixOnes lookups digit levels largest limit redundancy checks columns
 refusedExampleClaim = record { numbers = refl; closed = refl }
 
@@ -99,7 +99,7 @@ pub answeredExampleClaim : AnsweredExampleClaim
 unfolding
     run calling zeroRows cleared fresh programCall askCall lookupCall taskMatches taskCount taskVector startCall stepCall started stepped steppedMemory
     rowWritten entryMatches countedRows flaggedRows totalledBlocks resetRows lookedUp stepMatches entryAt nextAt isPlaceOf cycleAt isNext cellCount
-    blocksOf blockAt countFlagged blockTotals rowAt withRow rowMatch matchBytes counted flagged reset factors ofDigit ofCheck tests schedule unitVector
+    blocksOf blockAt countFlagged blockTotals rowAt withRow rowMatch matchBytes counted flagged reset factors ofDigit sweep ofCheck tests schedule unitVector
     testVector matchByte lineMatch number checkDigit checkCell encode weight ofWeight columnOrder eligible ruleColumns checkColumns matrix support
     matrixOnes lookups digit levels largest limit redundancy checks columns
 answeredExampleClaim = record { matched = refl; counted = refl; finished = refl; changed = refl; stepped = refl }
@@ -108,7 +108,7 @@ pub stepsExampleClaim : StepsExampleClaim
 unfolding
     stepsCall run calling zeroRows cleared fresh programCall startCall stepCall started stepped steppedMemory rowWritten entryMatches countedRows
     flaggedRows totalledBlocks resetRows lookedUp stepMatches entryAt nextAt isPlaceOf cycleAt isNext cellCount blocksOf blockAt countFlagged
-    blockTotals rowAt withRow rowMatch matchBytes counted flagged reset factors ofDigit ofCheck tests schedule unitVector testVector matchByte lineMatch
+    blockTotals rowAt withRow rowMatch matchBytes counted flagged reset factors ofDigit sweep ofCheck tests schedule unitVector testVector matchByte lineMatch
     number checkDigit checkCell encode weight ofWeight columnOrder eligible ruleColumns checkColumns matrix support matrixOnes lookups digit levels
     largest limit redundancy checks columns
 stepsExampleClaim = record { counts = refl; matches = refl; taken = refl; ended = refl }

@@ -14,7 +14,7 @@ use Rattle.parity.specs.Matrix.{support}
 use Rattle.parity.specs.Questions.{Taken}
 use Rattle.parity.specs.declared.Shape.{Shape}
 use Rattle.parity.proofs.Taken.{limits}
-use Rattle.schedule.specs.Schedule.{Entry, factors, within, ending, testVector, ofDigit, ofCheck, tests, schedule}
+use Rattle.schedule.specs.Schedule.{Entry, factors, within, ending, testVector, ofDigit, sweep, ofCheck, tests, schedule}
 use Rattle.schedule.specs.Tally.{freshTally}
 use Rattle.schedule.specs.Claims.{CapClaim}
 use Rattle.schedule.proofs.All.{All, all-at, all-turn, all-joined, all-atLast, all-pairs}
@@ -33,14 +33,14 @@ pub record Proper (s : Shape) (e : Entry) : Type 0 where
   pub input : e .factor * s .radix ^ e .digit < levels s
 
 pub proper-all : (z : ℕ) (s : Shape) → Taken s → All (Proper s) (tests z s)
-unfolding tests ofCheck ofDigit
+unfolding tests ofCheck sweep ofDigit
 proper-all z s t =
     all-joined (Proper s) (checks s) (ofCheck z s) λ ℓ h.
-    all-joined (Proper s) (s .digits - z) (λ i. ofDigit z s ℓ (s .digits - suc i)) λ i l.
+    all-joined (Proper s) (s .digits - z) (λ i. ofDigit z s ℓ (support s ℓ) (s .digits - suc i)) λ i l.
     let d : ℕ = s .digits - suc i in
     let lt : d < s .digits = omega (arith, limits s t .digitsLow) in
     all-atLast (Proper s) (ending z)
-    (λ e p. record { check = p .check; digit = p .digit; column = p .column; factor = p .factor; input = p .input }) (entries s ℓ d)
+    (λ e p. record { check = p .check; digit = p .digit; column = p .column; factor = p .factor; input = p .input }) (entries s ℓ (support s ℓ) d)
     (all-pairs (Proper s) (λ j. j < columns s) (λ a. (1 ≤ a) × (a * s .radix ^ d < levels s)) (within ℓ d)
     (λ j a k m. record { check = h; digit = lt; column = k; factor = m .0; input = m .1 }) (support s ℓ) (factors s d) (support-below s t ℓ)
     (factors-inputs s (limits s t .radixLow) d lt))

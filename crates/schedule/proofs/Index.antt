@@ -17,7 +17,7 @@ use Rattle.parity.specs.Matrix.{support}
 use Rattle.parity.specs.Questions.{Taken}
 use Rattle.parity.specs.declared.Shape.{Shape}
 use Rattle.parity.proofs.Taken.{limits}
-use Rattle.schedule.specs.Schedule.{Entry, factors, within, ending, ofDigit, ofCheck, tests}
+use Rattle.schedule.specs.Schedule.{Entry, factors, within, ending, ofDigit, sweep, ofCheck, tests}
 use Rattle.schedule.specs.Index.{IsPlace, supportSize, rank, span, placeIndex, endsAt, entryOf}
 use Rattle.schedule.specs.Claims.{IndexClaim}
 use Rattle.schedule.proofs.Sums.{length-joined, sum-steps, sum-times}
@@ -46,7 +46,7 @@ marked z ℓ d j a false = refl
 
 -- the entries of one ℓ, digit by digit from the highest
 abbrev digitLists : ℕ → Shape → ℕ → ℕ → List Entry
-digitLists z s ℓ i = ofDigit z s ℓ (s .digits - suc i)
+digitLists z s ℓ i = ofDigit z s ℓ (support s ℓ) (s .digits - suc i)
 
 module _ (z : ℕ) (s : Shape) (t : Taken s) where
   -- ---- how many entries stand before
@@ -63,7 +63,7 @@ module _ (z : ℕ) (s : Shape) (t : Taken s) where
       let J : ℕ = length (support s ℓ) in
       let two : 2 ≤ s .radix = limits s t .radixLow in
       let step : (i : ℕ) → i < b - suc d → length (digitLists z s ℓ i) + J * span s (b - i) ≡ J * span s (b - suc i) =
-      λ i l. let next : suc (b - suc i) ≡ b - i = omega arith in rw next at (length-step z s t ℓ (b - suc i) (omega arith)) in
+      λ i l. let next : suc (b - suc i) ≡ b - i = omega arith in rw next at (length-step z s t ℓ (support s ℓ) (b - suc i) (omega arith)) in
       let first : b - 0 ≡ b = omega arith in
       let last : b - (b - suc d) ≡ suc d = omega arith in
       let low : span s (b - 0) ≡ 1 = ap (span s) first ∙ div-self (one-le-pow b (s .radix) (omega arith)) in
@@ -89,7 +89,8 @@ module _ (z : ℕ) (s : Shape) (t : Taken s) where
   -- ---- each place
 
   digit-stands :
-      (ℓ d j a : ℕ) → IsPlace z s ℓ d j a → Stands (ofDigit z s ℓ d) (rank s ℓ j * length (factors s d) + factorRank (s .radix) a) (entryOf z s ℓ d j a)
+      (ℓ d j a : ℕ) → IsPlace z s ℓ d j a
+      → Stands (ofDigit z s ℓ (support s ℓ) d) (rank s ℓ j * length (factors s d) + factorRank (s .radix) a) (entryOf z s ℓ d j a)
   unfolding ofDigit endsAt supportSize
   digit-stands ℓ d j a p =
       let two : 2 ≤ s .radix = limits s t .radixLow in
@@ -99,18 +100,18 @@ module _ (z : ℕ) (s : Shape) (t : Taken s) where
       let factor : Factor s d a = record { low = p .low; high = p .high; undivided = p .undivided } in
       let column : Stands (support s ℓ) r j = stands-support s t ℓ j (p .column) (p .held) in
       let own : Stands (factors s d) k a = stands-factor s two d (p .digit) a factor in
-      let plain : Stands (entries s ℓ d) (r * w + k) (within ℓ d j a) =
+      let plain : Stands (entries s ℓ (support s ℓ) d) (r * w + k) (within ℓ d j a) =
       stands-overEach (λ j. map (within ℓ d j) (factors s d)) w (λ j. length-map (factors s d) (within ℓ d j)) (support s ℓ) r j k (within ℓ d j a)
       column (stands-map (within ℓ d j) (factors s d) k a own) in
-      let ends : eqb (suc (r * w + k)) (length (entries s ℓ d)) ≡ endsAt s ℓ d j a =
-      ap (eqb (suc (r * w + k))) (entries-length s ℓ d)
+      let ends : eqb (suc (r * w + k)) (length (entries s ℓ (support s ℓ) d)) ≡ endsAt s ℓ d j a =
+      ap (eqb (suc (r * w + k))) (entries-length s ℓ (support s ℓ) d)
       ∙ last-last (length (support s ℓ)) w r k (column .0) (own .0)
       ∙ ap (λ b. eqb (suc r) (length (support s ℓ)) && b) (factor-last s two d (p .digit) a factor) in
-      let all = stands-atLast (ending z) (entries s ℓ d) (r * w + k) (within ℓ d j a) plain in
+      let all = stands-atLast (ending z) (entries s ℓ (support s ℓ) d) (r * w + k) (within ℓ d j a) plain in
       (all .0, λ e. all .1 e ∙ ap (λ b. cond b (ending z (within ℓ d j a)) (within ℓ d j a)) ends ∙ marked z ℓ d j a (endsAt s ℓ d j a))
 
   place-stands : (ℓ d j a : ℕ) → IsPlace z s ℓ d j a → Stands (tests z s) (placeIndex z s ℓ d j a) (entryOf z s ℓ d j a)
-  unfolding tests ofCheck
+  unfolding tests ofCheck sweep
   place-stands ℓ d j a p =
       let own : s .digits - suc (s .digits - suc d) ≡ d = comp-comp (p .digit) in
       rw (index-parts ℓ d j a (p .digit))
@@ -121,7 +122,7 @@ module _ (z : ℕ) (s : Shape) (t : Taken s) where
   -- ---- each index
 
   index-found : (c : ℕ) → c < length (tests z s) → (ℓ : ℕ) × (d : ℕ) × (j : ℕ) × (a : ℕ) × IsPlace z s ℓ d j a × (placeIndex z s ℓ d j a ≡ c)
-  unfolding tests ofCheck
+  unfolding tests ofCheck sweep
   index-found c h =
       let two : 2 ≤ s .radix = limits s t .radixLow in
       let (ℓ, c₁, check, l₁, e₁) = joined-part (checks s) (ofCheck z s) c h in
@@ -131,7 +132,7 @@ module _ (z : ℕ) (s : Shape) (t : Taken s) where
       let lt : d < s .digits = omega arith in
       let w : ℕ = length (factors s d) in
       let some : 0 < w = factors-some s two d lt in
-      let (j, column, held, e₃) = support-part s t ℓ (c₂ / w) (div-lt-iff-lt-mul some .1 (rw (digit-length z s ℓ d) at l₂)) in
+      let (j, column, held, e₃) = support-part s t ℓ (c₂ / w) (div-lt-iff-lt-mul some .1 (rw (digit-length z s ℓ (support s ℓ) d) at l₂)) in
       let (a, factor, e₄) = factor-part s two d lt (c₂ % w) (mod-lt c₂ some) in
       let place : IsPlace z s ℓ d j a =
       record {

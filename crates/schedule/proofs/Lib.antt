@@ -15,6 +15,7 @@ pub mod Balanced
 pub mod Coarse
 pub mod Runs
 pub mod Digit
+pub mod Sweep
 pub mod Opening
 pub mod Flags
 pub mod Cap

@@ -48,13 +48,17 @@ abbrev pub ending : ℕ → Entry → Entry
 ending z e =
     record { check = e .check; digit = e .digit; column = e .column; factor = e .factor; opens = e .opens; flags = true; resets = eqb (e .digit) z }
 
--- the entries of one ℓ and s: each j of J(ℓ) increasing, within it each a
-unfoldable pub ofDigit : ℕ → Shape → ℕ → ℕ → List Entry
-ofDigit z shape ℓ s = atLast (ending z) (overEach (support shape ℓ) (λ j. map (within ℓ s j) (factors shape s)))
+-- the entries of one ℓ and s over a list of columns: each j of these, within it each a
+unfoldable pub ofDigit : ℕ → Shape → ℕ → List ℕ → ℕ → List Entry
+ofDigit z shape ℓ js s = atLast (ending z) (overEach js (λ j. map (within ℓ s j) (factors shape s)))
 
--- the entries of one ℓ: s from b − 1 down to z
+-- a sweep over a list of columns: s from b − 1 down to z
+unfoldable pub sweep : ℕ → Shape → ℕ → List ℕ → List Entry
+sweep z shape ℓ js = joined (shape .digits - z) (λ i. ofDigit z shape ℓ js (shape .digits - suc i))
+
+-- the entries of one ℓ: a sweep over J(ℓ), its columns increasing
 unfoldable pub ofCheck : ℕ → Shape → ℕ → List Entry
-ofCheck z shape ℓ = joined (shape .digits - z) (λ i. ofDigit z shape ℓ (shape .digits - suc i))
+ofCheck z shape ℓ = sweep z shape ℓ (support shape ℓ)
 
 -- the tests: ℓ from 0 up; from z = b on there is none
 unfoldable pub tests : ℕ → Shape → List Entry
