@@ -1,4 +1,4 @@
-// Line: one row's match line becomes sound, 0, or dead, 1, and nothing else changes.
+// Line: one row's match line becomes sound, 0, dead, 1, or shorted, 2, and nothing else changes.
 use array_questions::check_line;
 use parity::Shape;
 use shape::answer::Outcome;

@@ -48,10 +48,12 @@ module _ (s : Shape) (cells lines : ℕ) where
       let at = length-lent (length inputs ∷ matches ∷ []) (s .width ∷ s .rows ∷ []) (six .0) in
       (record { cells = parts .0; lines = parts .1; inputs = at 0 }, at 1)
 
-  -- the rows that a lookup goes through, by the sizes in hand
-  pub rows-lent : (z : Sizes) (inputs : List ℕ) → ArrayTaken s cells lines inputs → z ≡ sizesOf s → RowsLent cells lines (length inputs) (z .columns) (s .rows)
+  -- the rows that a lookup goes through with as many bytes as inputs, by the sizes in hand
+  pub rows-lent :
+      (z : Sizes) (inputs bytes : List ℕ) → ArrayTaken s cells lines inputs → z ≡ sizesOf s → length bytes ≡ length inputs
+      → RowsLent cells lines (length bytes) (z .columns) (s .rows)
   unfolding columns cellCount
-  rows-lent z inputs p e =
+  rows-lent z inputs bytes p e sized =
       let wide = ap (λ z. z .columns) e in
       record {
         inputs = omega (arith, wide, p .inputs);

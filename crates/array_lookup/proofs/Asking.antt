@@ -6,7 +6,7 @@ use Prim.Native.Nat.{ℕ}
 use lib.Dec.{eqb}
 use Rattle.parity.specs.Lists.{alongside}
 use Rattle.parity.specs.Shape.{levels}
-use Rattle.parity.specs.Questions.{question, firstNo, shapeQuestions, lengthsQuestion, levelsQuestion, inputsQuestion}
+use Rattle.parity.specs.Questions.{question, firstNo, shapeQuestions, lengthsQuestion, inputsQuestion}
 use Rattle.parity.specs.declared.Shape.{Shape}
 use Rattle.shape.specs.Shapes.{checkedSays, sizesIf, shapeSays, sizesIn, thenSays}
 use Rattle.shape.specs.declared.sizes.Sizes.{Sizes}
@@ -19,7 +19,7 @@ pub inputs-asked :
     (s : Shape) (cells lines : ℕ) (asked sized last : Checked) (z : Sizes) (result : Bool) (inputs lent wanted : List ℕ)
     → checkedSays asked ≡ shapeSays s → z ≡ sizesIn asked → checkedSays sized ≡ thenSays asked (question 6 result ∷ [])
     → result ≡ alongside eqb (cells ∷ lines ∷ lent) (z .cells ∷ s .rows ∷ wanted)
-    → checkedSays last ≡ thenSays sized (levelsQuestion (sizesIn sized .levels) inputs ∷ [])
+    → checkedSays last ≡ thenSays sized (inputsQuestion (sizesIn sized .levels) inputs ∷ [])
     → checkedSays last ≡ sizesIf (firstNo (arrayQuestions s cells lines (lengthsQuestion lent wanted ∷ inputsQuestion (levels s) inputs ∷ []))) s
 inputs-asked s cells lines asked sized last z result inputs lent wanted shape sizes six tested eight =
     ask (arrayQuestions s cells lines (lengthsQuestion lent wanted ∷ [])) s sized last _ (inputsQuestion (levels s) inputs) refl

@@ -25,7 +25,7 @@ lookupArguments s inputs matches = lengthsQuestion (length inputs ∷ matches �
 
 -- the match bytes of all rows, the check columns being fed 0
 unfoldable pub taskMatches : Shape → Memory → List ℕ → List ℕ
-taskMatches s mem inputs = matchBytes (s .rows) (columns s) (taskVector s inputs) (mem .cells) (mem .lines)
+taskMatches s mem inputs = matchBytes (levels s) (s .rows) (columns s) (taskVector s inputs) (mem .cells) (mem .lines)
 
 -- the number of matches
 unfoldable pub taskCount : Shape → Memory → List ℕ → ℕ
@@ -50,4 +50,4 @@ firstRow m byte = rowOrNone m (firstFrom (λ i. eqb (byte i) 1) m 0)
 unfoldable pub firstCall : Shape → Memory → List ℕ → Said Found
 firstCall s mem inputs =
     answering none (firstNo (arrayQuestions s (length (mem .cells)) (length (mem .lines)) (firstArguments s inputs)))
-    (firstRow (s .rows) (rowMatch (columns s) (taskVector s inputs) (mem .cells) (mem .lines)))
+    (firstRow (s .rows) (rowMatch (levels s) (columns s) (taskVector s inputs) (mem .cells) (mem .lines)))

@@ -14,7 +14,7 @@ pub fn check_lookup(
     shape: Shape,
     cells: usize,
     lines: usize,
-    inputs: &[u8],
+    inputs: &[u16],
     matches: usize,
 ) -> Checked
     ensures { λ r. ⌜ checkedSays r ≡ sizesIf (firstNo (arrayQuestions shape cells lines (lookupArguments shape (was inputs) matches))) shape ⌝ }
@@ -26,11 +26,11 @@ pub fn check_lookup(
     let wanted = [sizes.cells, rows, shape.width, rows];
     asked
         .check(6, same_lengths(&lent, &wanted))
-        .check_levels(inputs)
+        .check_inputs(inputs)
 }
 
 // First match.
-pub fn check_first(shape: Shape, cells: usize, lines: usize, inputs: &[u8]) -> Checked
+pub fn check_first(shape: Shape, cells: usize, lines: usize, inputs: &[u16]) -> Checked
     ensures { λ r. ⌜ checkedSays r ≡ sizesIf (firstNo (arrayQuestions shape cells lines (firstArguments shape (was inputs)))) shape ⌝ }
 {
     let asked = check_shape(shape);
@@ -39,5 +39,5 @@ pub fn check_first(shape: Shape, cells: usize, lines: usize, inputs: &[u8]) -> C
     let wanted = [sizes.cells, shape.rows, shape.width];
     asked
         .check(6, same_lengths(&lent, &wanted))
-        .check_levels(inputs)
+        .check_inputs(inputs)
 }

@@ -13,10 +13,10 @@ rowAt n cells i = take n (drop (i * n) cells)
 unfoldable pub withRow : ℕ → List ℕ → ℕ → List ℕ → List ℕ
 withRow n cells i row = take (i * n) cells ++ row ++ drop (suc i * n) cells
 
--- the match byte of row i for a vector of n inputs, by its line and its cells
-unfoldable pub rowMatch : ℕ → List ℕ → List ℕ → List ℕ → ℕ → ℕ
-rowMatch n vector cells lines i = lineMatch (getD lines i 0) vector (rowAt n cells i)
+-- the match byte of row i, of an array with q levels, for a vector of n inputs, by its line and its cells
+unfoldable pub rowMatch : ℕ → ℕ → List ℕ → List ℕ → List ℕ → ℕ → ℕ
+rowMatch q n vector cells lines i = lineMatch q (getD lines i 0) vector (rowAt n cells i)
 
 -- the match bytes of all m rows: one lookup
-unfoldable pub matchBytes : ℕ → ℕ → List ℕ → List ℕ → List ℕ → List ℕ
-matchBytes m n vector cells lines = tabulate m (rowMatch n vector cells lines)
+unfoldable pub matchBytes : ℕ → ℕ → ℕ → List ℕ → List ℕ → List ℕ → List ℕ
+matchBytes q m n vector cells lines = tabulate m (rowMatch q n vector cells lines)

@@ -2,8 +2,8 @@
 use mathlib.Core.List.{List, []}
 use Prim.Native.Nat.{ℕ}
 
--- cells (m × n bytes, row after row), lines (m bytes: 0 is a sound match line, any other a dead one), counters (m bytes), flags (m bytes), and totals of
--- flagged rows (a byte for each block of 64 rows)
+-- cells (m × n bytes, row after row), lines (m bytes: 0 is a sound match line, 2 a shorted one, any other a dead one), counters (m bytes), flags (m bytes),
+-- and totals of flagged rows (a byte for each block of 64 rows)
 pub record Memory : Type 0 where
   pub cells : List ℕ
   pub lines : List ℕ

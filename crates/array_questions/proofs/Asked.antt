@@ -146,7 +146,7 @@ pub record Sets (s : Shape) (lines row byte : ℕ) : Type 0 where
   pub taken : Taken s
   pub counted : lines ≡ s .rows
   pub place : row < s .rows
-  pub within : byte ≤ 1
+  pub within : byte ≤ 2
 
 pub line-reads : (s : Shape) (lines row byte : ℕ) → firstNo (linesQuestions s lines (lineArguments s row byte)) ≡ 0 → Sets s lines row byte
 line-reads s lines row byte none =
@@ -156,5 +156,5 @@ line-reads s lines row byte none =
       taken = p .taken;
       counted = lines-counted s lines (p .lent);
       place = seven .0;
-      within = leb-true byte 1 (first-yes _ 0 16 (lit< tt) (seven .1) .0);
+      within = leb-true byte 2 (first-yes _ 0 16 (lit< tt) (seven .1) .0);
     }

@@ -60,7 +60,7 @@ pub fn check_line(shape: Shape, lines: usize, row: usize, byte: u8) -> Checked
     check_shape(shape)
         .check(6, lines == shape.rows)
         .check(7, row < shape.rows)
-        .check(16, byte <= 1)
+        .check(16, byte <= 2)
 }
 
 // Program.

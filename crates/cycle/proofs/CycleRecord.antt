@@ -88,7 +88,7 @@ module _ (z : ℕ) (s : Shape) where
     unfolding isNext
     next-complete h = rw (record-complete h)
 
--- the record of a start: its opening is next
+-- the record of a start: its first opening is next
 pub start-record : (z : ℕ) (s : Shape) → Taken s → cycleAt z s 0 ≡ openAt z noPlace 0
 unfolding entryAt schedule
 start-record z s t = record-open z s t 0 (zero-lt-suc _)
@@ -104,12 +104,12 @@ next-record s t cycle e =
     let phase = open-phase (cycle .phase) (both .0) in
     (some, lt, (λ i. record { phase = phase i; place = place i; count = cycle .count; skip = z }) ∙ sym (record-open z s t (cycle .count) lt))
 
--- .. and what question 9 takes is open and, after the opening, stands at the place of a test that has its count
+-- .. and what question 9 takes is open and, after the openings, stands at the place of a test that has its count
 module _ (s : Shape) (t : Taken s) (cycle : Cycle) where
   pub next-phase : isNext s cycle ≡ true → cycle .phase ≡ Open
   unfolding isNext
   next-phase e = open-phase (cycle .phase) (and-eq-true-iff (isOpen (cycle .phase)) _ .0 e .0)
 
-  pub next-place : 0 < cycle .count → isNext s cycle ≡ true → AtPlace (cycle .skip) s (cycle .count) (cycle .place)
+  pub next-place : 1 < cycle .count → isNext s cycle ≡ true → AtPlace (cycle .skip) s (cycle .count) (cycle .place)
   unfolding isNext
   next-place low e = place-at (cycle .skip) s t (cycle .count) low (cycle .place) (and-eq-true-iff (isOpen (cycle .phase)) _ .0 e .1)

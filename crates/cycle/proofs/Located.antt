@@ -2,8 +2,7 @@
 use mathlib.Core.Path.{_≡_, refl, ap}
 use mathlib.Core.Bool.{Bool, true, false, cond}
 use mathlib.Core.List.{[], _∷_}
-use Prim.Native.Nat.{ℕ, zero, suc, _<_}
-use native.Mathlib.Nat.{zero-lt-suc}
+use Prim.Native.Nat.{ℕ, zero, suc, _≤_, _<_}
 use native.Mathlib.Omega.{arith}
 use lib.Dec.{lit<}
 use Rattle.parity.specs.Questions.{firstNo, Taken, lengthsQuestion}
@@ -11,7 +10,7 @@ use Rattle.parity.specs.declared.Shape.{Shape}
 use Rattle.parity.proofs.Taken.{first-yes}
 use Rattle.parity.proofs.Longest.{lookups-high}
 use Rattle.shape.proofs.Refusals.{length-lent, CallPassed, call-passed}
-use Rattle.schedule.specs.Schedule.{opening, schedule}
+use Rattle.schedule.specs.Schedule.{schedule}
 use Rattle.array_memory.specs.Lengths.{allWanted, allLengths, Sized}
 use Rattle.array_memory.specs.Memory.{Memory}
 use Rattle.array_memory.proofs.Asked.{all-sized}
@@ -23,30 +22,32 @@ use Rattle.cycle_place.specs.declared.walk.Here.{Here}
 use Rattle.cycle_place.specs.declared.walk.Next.{Next}
 use Rattle.cycle_place.specs.declared.walk.Located.the-variants.{Opening, Test, Elsewhere}
 use Rattle.cycle.specs.Moves.{Movable}
-use Rattle.cycle.specs.Record.{nextEntry, isNext}
+use Rattle.cycle_lookup.specs.Rows.{openingOf}
+use Rattle.cycle.specs.Record.{isNext}
 use Rattle.cycle.specs.declared.Cycle.{Cycle}
 use Rattle.cycle.proofs.CycleRecord.{next-record, next-phase}
 
 module _ (z : ℕ) (s : Shape) (place : Place) where
-  pub told-opening : (b : Bool) (c : ℕ) (next : Next) → cond b (toldAt z s c place) Elsewhere ≡ Opening next → (b ≡ true) × (c ≡ 0) × (next ≡ nextAt z s 1)
-  told-opening true zero next e = (refl, refl, cc)
-  told-opening true (suc c) next e = let never : _≡_ {A = ℕ} 0 1 = cc in absurd (omega arith)
-  told-opening false c next e = let never : _≡_ {A = ℕ} 0 1 = cc in absurd (omega arith)
+  pub told-opening :
+      (b : Bool) (c byte : ℕ) (next : Next) → cond b (toldAt z s c place) Elsewhere ≡ Opening byte next
+      → (b ≡ true) × (c < 2) × (byte ≤ 1) × (entryAt z s c ≡ openingOf s byte) × (next ≡ nextAt z s (suc c))
+  unfolding entryAt schedule
+  told-opening true zero byte next e = let own : 1 ≡ byte = cc in (refl, omega arith, omega arith, ap (openingOf s) own, cc)
+  told-opening true (suc zero) byte next e = let own : 0 ≡ byte = cc in (refl, omega arith, omega arith, ap (openingOf s) own, cc)
+  told-opening true (suc (suc c)) byte next e = let never : _≡_ {A = ℕ} 0 1 = cc in absurd (omega arith)
+  told-opening false c byte next e = let never : _≡_ {A = ℕ} 0 1 = cc in absurd (omega arith)
 
-  pub told-test : (b : Bool) (c : ℕ) (here : Here) → cond b (toldAt z s c place) Elsewhere ≡ Test here → (b ≡ true) × (0 < c) × (here ≡ hereAt z s c place)
+  pub told-test : (b : Bool) (c : ℕ) (here : Here) → cond b (toldAt z s c place) Elsewhere ≡ Test here → (b ≡ true) × (1 < c) × (here ≡ hereAt z s c place)
   told-test true zero here e = let never : _≡_ {A = ℕ} 0 1 = cc in absurd (omega arith)
-  told-test true (suc c) here e = (refl, zero-lt-suc c, cc)
+  told-test true (suc zero) here e = let never : _≡_ {A = ℕ} 0 1 = cc in absurd (omega arith)
+  told-test true (suc (suc c)) here e = (refl, omega arith, cc)
   told-test false c here e = let never : _≡_ {A = ℕ} 0 1 = cc in absurd (omega arith)
 
   pub told-none : (b : Bool) (c : ℕ) → cond b (toldAt z s c place) Elsewhere ≡ Elsewhere → b ≡ false
   told-none true zero e = let never : _≡_ {A = ℕ} 0 1 = cc in absurd (omega arith)
-  told-none true (suc c) e = let never : _≡_ {A = ℕ} 0 1 = cc in absurd (omega arith)
+  told-none true (suc zero) e = let never : _≡_ {A = ℕ} 0 1 = cc in absurd (omega arith)
+  told-none true (suc (suc c)) e = let never : _≡_ {A = ℕ} 0 1 = cc in absurd (omega arith)
   told-none false c e = refl
-
--- the entry that is next after no other is the opening
-pub entry-opening : (s : Shape) (cycle : Cycle) → cycle .count ≡ 0 → nextEntry s cycle ≡ opening
-unfolding entryAt schedule
-entry-opening s cycle none = ap (entryAt (cycle .skip) s) none
 
 -- a record that question 9 takes can be moved on
 pub movable : (s : Shape) → Taken s → (cycle : Cycle) → isNext s cycle ≡ true → Movable cycle

@@ -65,7 +65,7 @@ commitCall s st row finished =
 
 -- ---- start
 
--- counters, flags and totals 0, record open, count 0, its opening next, also when a cycle was open
+-- counters, flags and totals 0, record open, count 0, its first opening next, also when a cycle was open
 unfoldable pub started : Shape → State → ℕ → State
 started s st z = stateOf (zeroRows s (st .memory)) (cycleAt z s 0)
 

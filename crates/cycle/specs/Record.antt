@@ -12,7 +12,7 @@ use Rattle.cycle.specs.declared.Cycle.{Cycle}
 use Rattle.cycle.specs.declared.Phase.{Phase}
 use Rattle.cycle.specs.declared.Phase.the-variants.{Idle, Open, Complete}
 
--- the place that is all 0: the opening's, and that of a record with no lookup to come
+-- the place that is all 0: that of both openings, and of a record with no lookup to come
 abbrev pub noPlace : Place
 noPlace = placeAt 0 0 0 0
 

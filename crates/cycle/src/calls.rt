@@ -261,8 +261,8 @@ impl Cycle {
     {
         match self.locate(shape, checks, columns, padded) {
             Located::Elsewhere => refused(self, 9),
-            Located::Opening(next) => {
-                make_opening(lines, flags, totals, matches);
+            Located::Opening(byte, next) => {
+                make_opening(byte, lines, flags, totals, matches);
                 done(self.moved(next))
             }
             Located::Test(here) => {

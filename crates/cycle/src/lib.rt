@@ -28,7 +28,7 @@ pub enum Phase {
 // low digits that it skips.
 pub struct Cycle {
     pub phase: Phase,
-    // all 0 where the opening is next, and where no lookup is to come
+    // all 0 where an opening is next, and where no lookup is to come
     pub place: Place,
     pub count: usize,
     pub skip: usize,
@@ -83,11 +83,11 @@ impl Cycle {
     // .. to here.
     pub const MAX_ROWS: usize = Sizes::MAX_ROWS;
 
-    // The steps of the longest cycle: the opening, and 255 tests for each of the 1,024 ones of the largest check matrix, no
+    // The steps of the longest cycle: two openings, and 255 tests for each of the 1,024 ones of the largest check matrix, no
     // digit skipped. No record that a start and accepted steps leave has a larger count.
-    pub const MAX_COUNT: usize = 261121;
+    pub const MAX_COUNT: usize = 261122;
 
-    // The record after a start: the opening is next.
+    // The record after a start: the first opening is next.
     pub fn opening(skip: usize) -> Self
         ensures { λ r. ⌜ r ≡ openAt skip noPlace 0 ⌝ }
     {

@@ -1,9 +1,9 @@
--- What the passes of a lookup over the rows come to, for the opening and for a test: the unit vector looks at one cell of a row, a dead line gives 0,
--- and a pass that is not made leaves its bytes as they were. Assumes nothing.
+-- What the passes of a lookup over the rows come to, for an opening and for a test: the unit vector looks at one cell of a row, its line makes a match byte
+-- of what that says, and a pass that is not made leaves its bytes as they were. Assumes nothing.
 use mathlib.Core.Path.{_≡_, refl, sym, subst, ap, ap₂, _∙_}
-use mathlib.Core.Bool.{Bool, true, false, cond, not, _&&_, false≢true}
+use mathlib.Core.Bool.{Bool, true, false, cond, not, _&&_}
 use mathlib.Core.List.{List}
-use Prim.Native.Nat.{ℕ, _+_, _*_, _%_, _^_, _≤_, _<_}
+use Prim.Native.Nat.{ℕ, zero, suc, _+_, _*_, _%_, _^_, _≤_, _<_}
 use native.Mathlib.Nat.{mod-lt, mod-add-mod}
 use native.Mathlib.Omega.{arith}
 use lib.Arith.{lt-of-le-ne}
@@ -12,28 +12,28 @@ use lib.ListN.{length, getD, replicate}
 use lib.Seq.{ext-getD}
 use borrow.Author.Tests.{eqb-true, eqb-false, le-leb, lt-leb}
 use Rattle.parity.specs.Lists.{tabulate}
-use Rattle.parity.specs.Match.{matchByte, lineMatch}
-use Rattle.parity.specs.Shape.{columns, cellCount}
+use Rattle.parity.specs.Match.{matchByte, lineGives, lineMatch}
+use Rattle.parity.specs.Shape.{levels, columns, cellCount}
 use Rattle.parity.specs.Questions.{Taken}
 use Rattle.parity.specs.declared.Shape.{Shape}
 use Rattle.parity.proofs.ListLaws.{length-tabulate, getD-tabulate, tabulate-same, tabulate-constant}
-use Rattle.schedule.specs.Schedule.{Entry, within, opening, unitVector, testVector}
+use Rattle.schedule.specs.Schedule.{Kind, counts, Entry, within, testVector}
 use Rattle.schedule.specs.Index.{placeIndex}
-use Rattle.schedule.specs.Tally.{counted, flagged, reset}
+use Rattle.schedule.specs.Tally.{counted, isSuspect, flagged, reset}
 use Rattle.schedule.proofs.Cap.{Proper, tests-proper}
 use Rattle.schedule.proofs.Index.{indexClaim}
-use Rattle.schedule.proofs.Lookup.{match-unit}
-use Rattle.schedule.proofs.Opening.{opening-matched}
+use Rattle.schedule.proofs.Lookup.{match-below}
+use Rattle.schedule.proofs.Openings.{dead-said, shorted-said}
 use Rattle.acam.specs.Cell.{cellMatch}
-use Rattle.acam.proofs.CellMatch.{cell-said}
 use Rattle.array_memory.specs.Blocks.{blockTotals}
 use Rattle.array_memory.specs.Geometry.{rowAt, rowMatch, matchBytes}
 use Rattle.array_memory.specs.Lengths.{Sized}
 use Rattle.array_memory.specs.Memory.{Memory, withCounters, withRows}
 use Rattle.array_memory.proofs.RowPlaces.{row-cell, row-sized}
-use Rattle.cycle_passes.specs.Passes.{columnCells, columnMatches, reducedByte, reducedBytes, countedBytes, overwrittenBytes}
+use Rattle.cycle_passes.specs.Passes.{columnCells, columnMatches, givenBytes, reducedByte, reducedBytes, countedBytes, flaggedBytes}
 use Rattle.cycle_place.specs.Walk.{Stands, testOf}
 use Rattle.cycle_place.specs.declared.Place.{Place}
+use Rattle.cycle_lookup.specs.Rows.{openingOf}
 use Rattle.cycle_lookup.specs.Lookup.{entryMatches, countedRows, flaggedRows, totalledBlocks, resetRows, lookedUp}
 
 -- ---- lists
@@ -62,39 +62,22 @@ module _ (z : ℕ) (s : Shape) (t : Taken s) (p : Place) (stands : Stands z s p)
 
 -- the byte of row i, by what its cells say
 row-byte :
-    (n : ℕ) (vector cells lines : List ℕ) (i byte : ℕ) → matchByte vector (rowAt n cells i) ≡ byte
-    → rowMatch n vector cells lines i ≡ cond (eqb (getD lines i 0) 0) byte 0
+    (q n : ℕ) (vector cells lines : List ℕ) (i said : ℕ) → matchByte q vector (rowAt n cells i) ≡ said
+    → rowMatch q n vector cells lines i ≡ lineGives (getD lines i 0) said
 unfolding rowMatch lineMatch
-row-byte n vector cells lines i byte e = ap (λ byte. cond (eqb (getD lines i 0) 0) byte 0) e
-
--- .. of all rows, as they are made: by the cells first, and then by the lines
-bytes-made :
-    (s : Shape) (e : Entry) (mem : Memory) (said : ℕ → ℕ)
-    → ((i : ℕ) → i < s .rows → matchByte (testVector s e) (rowAt (columns s) (mem .cells) i) ≡ said i)
-    → {looked matches : List ℕ} → looked ≡ tabulate (s .rows) said → (m : ℕ) → m ≡ s .rows
-    → matches ≡ tabulate m (λ i. cond (eqb (getD (mem .lines) i 0) 0) (getD looked i 0) 0)
-    → matches ≡ entryMatches s e mem
-unfolding entryMatches matchBytes
-bytes-made s e mem said cells look m rows mute =
-    mute
-    ∙ rw (rows, look)
-    (tabulate-same (s .rows) _ _ λ i h.
-    ap (λ byte. cond (eqb (getD (mem .lines) i 0) 0) byte 0) (getD-tabulate (s .rows) said i 0 h)
-    ∙ sym (row-byte (columns s) (testVector s e) (mem .cells) (mem .lines) i (said i) (cells i h)))
+row-byte q n vector cells lines i said e = ap (lineGives (getD lines i 0)) e
 
 -- a test's, each from one cell
 module _ (z : ℕ) (s : Shape) (t : Taken s) (p : Place) (stands : Stands z s p) (mem : Memory) (sized : length (mem .cells) ≡ cellCount s) where
   test-row :
       (x : ℕ) → x ≡ p .factor * s .radix ^ p .digit → (i : ℕ) → i < s .rows
-      → rowMatch (columns s) (testVector s (testOf z s p)) (mem .cells) (mem .lines) i
+      → rowMatch (levels s) (columns s) (testVector s (testOf z s p)) (mem .cells) (mem .lines) i
       ≡ cellMatch (getD (mem .lines) i 0) x (getD (mem .cells) (i * columns s + p .column) 0)
-  unfolding testVector lineMatch
   test-row x input i h =
-      rw (← input)
-      (row-byte (columns s) (unitVector (columns s) (p .column) x) (mem .cells) (mem .lines) i _
-      (match-unit (columns s) (p .column) x (rowAt (columns s) (mem .cells) i) (stands .column) (row-sized s (mem .cells) i sized h)
-      ∙ ap (λ v. cond (leb x v) 1 0) (row-cell s (mem .cells) i (p .column) (stands .column))
-      ∙ sym (cell-said x (getD (mem .cells) (i * columns s + p .column) 0))))
+      let own : List ℕ = rowAt (columns s) (mem .cells) i in
+      row-byte (levels s) (columns s) (testVector s (testOf z s p)) (mem .cells) (mem .lines) i _
+      (match-below s t (testOf z s p) own (stands .column) (row-sized s (mem .cells) i sized h) (test-proper z s t p stands .input)
+      ∙ ap₂ (λ x v. cond (leb x v) 1 0) (sym input) (row-cell s (mem .cells) i (p .column) (stands .column)))
 
   pub test-matches :
       (n m x : ℕ) → n ≡ columns s → m ≡ s .rows → x ≡ p .factor * s .radix ^ p .digit → {column matches : List ℕ}
@@ -108,14 +91,25 @@ module _ (z : ℕ) (s : Shape) (t : Taken s) (p : Place) (stands : Stands z s p)
       (tabulate-same (s .rows) _ _ λ i h.
       ap (cellMatch (getD (mem .lines) i 0) x) (getD-tabulate (s .rows) cell i 0 h) ∙ sym (test-row x input i h))
 
--- the opening's, without a look at the cells
+-- an opening's, without a look at the cells: every row's cells say its byte
+pub opening-said :
+    (s : Shape) → Taken s → (byte : ℕ) → byte ≤ 1 → (row : List ℕ) → length row ≡ columns s
+    → matchByte (levels s) (testVector s (openingOf s byte)) row ≡ byte
+opening-said s t zero low row sized = shorted-said s t row sized
+opening-said s t (suc zero) low row sized = dead-said s t row sized
+opening-said s t (suc (suc byte)) low row sized = absurd (omega arith)
+
 pub opening-matches :
-    (s : Shape) → Taken s → (mem : Memory) → length (mem .cells) ≡ cellCount s → {looked matches : List ℕ} (m : ℕ) → m ≡ s .rows
-    → looked ≡ replicate m 1 → (k : ℕ) → k ≡ s .rows → matches ≡ tabulate k (λ i. cond (eqb (getD (mem .lines) i 0) 0) (getD looked i 0) 0)
-    → matches ≡ entryMatches s opening mem
-opening-matches s t mem sized {looked} m rows look k all mute =
-    let made : looked ≡ tabulate (s .rows) (λ i. 1) = look ∙ rw rows (sym (tabulate-constant (s .rows) 1)) in
-    bytes-made s opening mem (λ i. 1) (λ i h. opening-matched s t (rowAt (columns s) (mem .cells) i) (row-sized s (mem .cells) i sized h)) made k all mute
+    (s : Shape) → Taken s → (byte : ℕ) → byte ≤ 1 → (mem : Memory) → length (mem .cells) ≡ cellCount s → {matches : List ℕ} (m : ℕ) → m ≡ s .rows
+    → matches ≡ givenBytes byte (mem .lines) m → matches ≡ entryMatches s (openingOf s byte) mem
+unfolding entryMatches matchBytes
+opening-matches s t byte low mem sized m rows given =
+    given
+    ∙ rw rows
+    (tabulate-same (s .rows) _ _ λ i h.
+    sym
+    (row-byte (levels s) (columns s) (testVector s (openingOf s byte)) (mem .cells) (mem .lines) i byte
+    (opening-said s t byte low (rowAt (columns s) (mem .cells) i) (row-sized s (mem .cells) i sized h))))
 
 -- ---- the passes of a test
 
@@ -140,7 +134,7 @@ lowest-at z d h = go (eqb d z) refl
     go true e = le-leb d z (omega (arith, eqb-true d z e))
     go false e = lt-leb d z (lt-of-le-ne h (λ same. eqb-false d z e (sym same)))
 
-module _ (s : Shape) (e : Entry) (test : e .opens ≡ false) (mem : Memory) (sized : Sized s mem) where
+module _ (s : Shape) (e : Entry) (test : e .kind ≡ counts) (mem : Memory) (sized : Sized s mem) where
   -- the counters after the lookup
   abbrev countersAfter : List ℕ
   countersAfter = countedRows s e (mem .counters) (entryMatches s e mem)
@@ -150,7 +144,7 @@ module _ (s : Shape) (e : Entry) (test : e .opens ≡ false) (mem : Memory) (siz
   counters-length = length-tabulate (s .rows) _
 
   counters-made : {matches : List ℕ} → matches ≡ entryMatches s e mem → countedBytes (s .radix) (mem .counters) matches ≡ countersAfter
-  unfolding countedRows counted
+  unfolding countedRows
   counters-made looked = rw (sized .rows .counters, looked, test)
 
   -- they return to 0, or stay
@@ -166,25 +160,29 @@ module _ (s : Shape) (e : Entry) (test : e .opens ≡ false) (mem : Memory) (siz
 
   -- rows whose counters aren't 0 are flagged, or no row
   flags-left :
-      {counters left : List ℕ} → counters ≡ countersAfter → left ≡ cond (e .flags) (overwrittenBytes counters 1 (mem .flags)) (mem .flags)
+      {counters left : List ℕ} → counters ≡ countersAfter → left ≡ cond (e .flags) (flaggedBytes counters 0 (mem .flags)) (mem .flags)
       → left ≡ lookedUp s e mem .flags
   unfolding lookedUp flaggedRows flagged
-  flags-left made l = l ∙ rw (made, sized .rows .flags) (go (e .flags) (e .opens) test)
+  flags-left made l =
+      l
+      ∙ rw (made, sized .rows .flags) (go (e .flags))
+      ∙ ap (λ kind. tabulate (s .rows) (λ i. cond (e .flags && suspect kind i) 1 (getD (mem .flags) i 0))) (sym test)
     where
+      suspect : Kind → ℕ → Bool
+      suspect kind i = isSuspect kind (getD (entryMatches s e mem) i 0) (getD countersAfter i 0)
+
       go :
-          (b opens : Bool) → opens ≡ false
+          (b : Bool)
           → cond b (tabulate (s .rows) (λ i. cond (eqb (getD countersAfter i 0) 0) (getD (mem .flags) i 0) 1)) (mem .flags)
-          ≡ tabulate (s .rows)
-          (λ i. cond (b && cond opens (eqb (getD (entryMatches s e mem) i 0) 0) (not (eqb (getD countersAfter i 0) 0))) 1 (getD (mem .flags) i 0))
-      go b true never = absurd (false≢true (sym never))
-      go true false opens = tabulate-same (s .rows) _ _ (λ i h. cond-not (eqb (getD countersAfter i 0) 0) (getD (mem .flags) i 0) 1)
-      go false false opens = sym (tabulate-list (s .rows) (mem .flags) (sized .rows .flags))
+          ≡ tabulate (s .rows) (λ i. cond (b && not (eqb (getD countersAfter i 0) 0)) 1 (getD (mem .flags) i 0))
+      go true = tabulate-same (s .rows) _ _ (λ i h. cond-not (eqb (getD countersAfter i 0) 0) (getD (mem .flags) i 0) 1)
+      go false = sym (tabulate-list (s .rows) (mem .flags) (sized .rows .flags))
 
   -- what is left in all
   all-left :
       {matches counters left flags totals : List ℕ} → matches ≡ entryMatches s e mem → counters ≡ countedBytes (s .radix) (mem .counters) matches
       → left ≡ cond (e .resets) (replicate (length counters) 0) counters
-      → flags ≡ cond (e .flags) (overwrittenBytes counters 1 (mem .flags)) (mem .flags)
+      → flags ≡ cond (e .flags) (flaggedBytes counters 0 (mem .flags)) (mem .flags)
       → totals ≡ cond (e .flags) (blockTotals flags) (mem .totals)
       → lookedUp s e mem ≡ withRows left flags totals mem
   unfolding lookedUp totalledBlocks
@@ -200,19 +198,19 @@ pub test-made :
     → {matches counters left flags totals : List ℕ} → matches ≡ entryMatches s (testOf z s p) mem
     → counters ≡ countedBytes (s .radix) (mem .counters) matches
     → left ≡ cond (ends && leb (p .digit) z) (replicate (length counters) 0) counters
-    → flags ≡ cond ends (overwrittenBytes counters 1 (mem .flags)) (mem .flags)
+    → flags ≡ cond ends (flaggedBytes counters 0 (mem .flags)) (mem .flags)
     → totals ≡ cond ends (blockTotals flags) (mem .totals)
     → lookedUp s (testOf z s p) mem ≡ withRows left flags totals mem
 test-made z s p unskipped ends e mem sized {matches} {counters} {left} {flags} looked counted l f t =
     let lowest : ends && leb (p .digit) z ≡ testOf z s p .resets = ap₂ _&&_ e (lowest-at z (p .digit) unskipped) in
     all-left s (testOf z s p) refl mem sized looked counted (l ∙ ap (λ b. cond b (replicate (length counters) 0) counters) lowest)
-    (f ∙ ap (λ b. cond b (overwrittenBytes counters 1 (mem .flags)) (mem .flags)) e) (t ∙ ap (λ b. cond b (blockTotals flags) (mem .totals)) e)
+    (f ∙ ap (λ b. cond b (flaggedBytes counters 0 (mem .flags)) (mem .flags)) e) (t ∙ ap (λ b. cond b (blockTotals flags) (mem .totals)) e)
 
 -- a test counts any bytes by their remainders
 pub look-reduced :
-    (s : Shape) (e : Entry) → e .opens ≡ false → (mem : Memory) → length (mem .counters) ≡ s .rows
+    (s : Shape) (e : Entry) → e .kind ≡ counts → (mem : Memory) → length (mem .counters) ≡ s .rows
     → lookedUp s e (withCounters (reducedBytes (s .radix) (mem .counters)) mem) ≡ lookedUp s e mem
-unfolding lookedUp countedRows counted entryMatches
+unfolding lookedUp countedRows entryMatches
 look-reduced s e test mem sized =
     let matches : List ℕ = entryMatches s e mem in
     let left : List ℕ → Memory = λ counters.
@@ -220,30 +218,34 @@ look-reduced s e test mem sized =
     withRows (resetRows s e counters) flags (totalledBlocks e flags (mem .totals)) mem in
     ap left
     (tabulate-same (s .rows) _ _ λ i h.
-    go (e .opens) (getD matches i 0) (getD (mem .counters) i 0) test
+    go (e .kind) (getD matches i 0) (getD (mem .counters) i 0) test
     (getD-tabulate (length (mem .counters)) (reducedByte (s .radix) (mem .counters)) i 0 (omega arith)))
   where
     go :
-        (opens : Bool) (byte counter : ℕ) → opens ≡ false → {own : ℕ} → own ≡ counter % s .radix
-        → cond opens own ((own + byte) % s .radix) ≡ cond opens counter ((counter + byte) % s .radix)
-    go true byte counter never e = absurd (false≢true (sym never))
-    go false byte counter test e = ap (λ own. (own + byte) % s .radix) e ∙ mod-add-mod counter (s .radix) byte
+        (kind : Kind) (byte counter : ℕ) → kind ≡ counts → {own : ℕ} → own ≡ counter % s .radix
+        → counted kind (s .radix) own byte ≡ counted kind (s .radix) counter byte
+    go kind byte counter test {own} e =
+        ap (λ kind. counted kind (s .radix) own byte) test
+        ∙ ap (λ own. (own + byte) % s .radix) e
+        ∙ mod-add-mod counter (s .radix) byte
+        ∙ sym (ap (λ kind. counted kind (s .radix) counter byte) test)
 
 -- the counters that a test leaves are below ρ
 pub test-below :
-    (s : Shape) (e : Entry) → e .opens ≡ false → 0 < s .radix → (mem : Memory) (i : ℕ) → i < s .rows → getD (lookedUp s e mem .counters) i 0 < s .radix
-unfolding lookedUp resetRows reset countedRows counted
+    (s : Shape) (e : Entry) → e .kind ≡ counts → 0 < s .radix → (mem : Memory) (i : ℕ) → i < s .rows → getD (lookedUp s e mem .counters) i 0 < s .radix
+unfolding lookedUp resetRows reset countedRows
 test-below s e test some mem i h =
-    let sum : ℕ → ℕ = λ i. getD (mem .counters) i 0 + getD (entryMatches s e mem) i 0 in
-    let added : ℕ → ℕ = λ i. cond (e .opens) (getD (mem .counters) i 0) (sum i % s .radix) in
+    let byte : ℕ → ℕ = λ i. getD (entryMatches s e mem) i 0 in
+    let added : ℕ → ℕ = λ i. counted (e .kind) (s .radix) (getD (mem .counters) i 0) (byte i) in
     let kept : ℕ → ℕ = λ i. cond (e .resets) 0 (getD (tabulate (s .rows) added) i 0) in
-    let here = getD-tabulate (s .rows) kept i 0 h ∙ ap (cond (e .resets) 0) (getD-tabulate (s .rows) added i 0 h) in
-    rw here (go (e .opens) (e .resets) (sum i) test)
+    let here =
+    getD-tabulate (s .rows) kept i 0 h
+    ∙ ap (cond (e .resets) 0) (getD-tabulate (s .rows) added i 0 h ∙ ap (λ kind. counted kind (s .radix) (getD (mem .counters) i 0) (byte i)) test) in
+    rw here (go (e .resets) (getD (mem .counters) i 0 + byte i))
   where
-    go : (opens resets : Bool) (sum : ℕ) → opens ≡ false → cond resets 0 (cond opens (getD (mem .counters) i 0) (sum % s .radix)) < s .radix
-    go true resets sum never = absurd (false≢true (sym never))
-    go false true sum test = some
-    go false false sum test = mod-lt sum some
+    go : (resets : Bool) (sum : ℕ) → cond resets 0 (sum % s .radix) < s .radix
+    go true sum = some
+    go false sum = mod-lt sum some
 
 -- ---- flags and totals: left where no row is flagged, and else the totals are those of the flags
 module _ (s : Shape) (e : Entry) (mem : Memory) where
@@ -260,31 +262,21 @@ module _ (s : Shape) (e : Entry) (mem : Memory) where
   unfolding lookedUp totalledBlocks
   totals-counted f made counted = counted ∙ ap blockTotals made ∙ rw f refl
 
--- ---- the passes of the opening
+-- ---- the passes of an opening
 
--- a row with a sound line, which matches, keeps its flag; any other is flagged
-opening-flag : (sound : Bool) (flag : ℕ) → cond sound flag 1 ≡ cond (eqb (cond sound 1 0) 0) 1 flag
-opening-flag true flag = refl
-opening-flag false flag = refl
-
-module _ (s : Shape) (t : Taken s) (mem : Memory) (sized : Sized s mem) where
-  pub opening-counters : mem .counters ≡ lookedUp s opening mem .counters
-  unfolding lookedUp resetRows reset countedRows counted
+module _ (s : Shape) (byte : ℕ) (mem : Memory) (sized : Sized s mem) where
+  pub opening-counters : mem .counters ≡ lookedUp s (openingOf s byte) mem .counters
+  unfolding lookedUp resetRows reset countedRows
   opening-counters =
       let whole : tabulate (s .rows) (λ i. getD (mem .counters) i 0) ≡ mem .counters = tabulate-list (s .rows) (mem .counters) (sized .rows .counters) in
       sym (ap (λ counters. tabulate (s .rows) (λ i. getD counters i 0)) whole ∙ whole)
 
+  -- rows that do not give its byte are flagged
   pub opening-flags :
-      {flags : List ℕ} (m : ℕ) → m ≡ s .rows
-      → flags ≡ tabulate m (λ i. cond (eqb (getD (mem .lines) i 0) 0) (getD (mem .flags) i 0) 1) → flags ≡ lookedUp s opening mem .flags
-  unfolding lookedUp flaggedRows flagged entryMatches matchBytes
-  opening-flags m rows set =
+      {matches flags : List ℕ} → matches ≡ entryMatches s (openingOf s byte) mem → flags ≡ flaggedBytes matches byte (mem .flags)
+      → flags ≡ lookedUp s (openingOf s byte) mem .flags
+  unfolding lookedUp flaggedRows flagged
+  opening-flags made set =
       set
-      ∙ rw rows
-      (tabulate-same (s .rows) _ _ λ i h.
-      opening-flag (eqb (getD (mem .lines) i 0) 0) (getD (mem .flags) i 0)
-      ∙ ap (λ match. cond (eqb match 0) 1 (getD (mem .flags) i 0))
-      (sym
-      (getD-tabulate (s .rows) _ i 0 h
-      ∙ row-byte (columns s) (testVector s opening) (mem .cells) (mem .lines) i 1
-      (opening-matched s t (rowAt (columns s) (mem .cells) i) (row-sized s (mem .cells) i (sized .cells) h)))))
+      ∙ rw (made, sized .rows .flags)
+      (tabulate-same (s .rows) _ _ λ i h. cond-not (eqb (getD (entryMatches s (openingOf s byte) mem) i 0) byte) (getD (mem .flags) i 0) 1)

@@ -4,7 +4,7 @@ use mathlib.Core.List.{List}
 use Prim.Native.Nat.{ℕ}
 use lib.ListN.{getD}
 use Rattle.parity.specs.Lists.{tabulate}
-use Rattle.parity.specs.Shape.{columns}
+use Rattle.parity.specs.Shape.{levels, columns}
 use Rattle.parity.specs.declared.Shape.{Shape}
 use Rattle.schedule.specs.Schedule.{Entry, testVector}
 use Rattle.schedule.specs.Tally.{counted, flagged, reset}
@@ -14,13 +14,13 @@ use Rattle.array_memory.specs.Memory.{Memory, withRows}
 
 -- The match bytes: the entry's vector is fed to all rows.
 unfoldable pub entryMatches : Shape → Entry → Memory → List ℕ
-entryMatches s e mem = matchBytes (s .rows) (columns s) (testVector s e) (mem .cells) (mem .lines)
+entryMatches s e mem = matchBytes (levels s) (s .rows) (columns s) (testVector s e) (mem .cells) (mem .lines)
 
 -- But at an opening, each is added to its row's counter mod ρ, any byte found there by its remainder ..
 unfoldable pub countedRows : Shape → Entry → List ℕ → List ℕ → List ℕ
-countedRows s e counters matches = tabulate (s .rows) (λ i. counted e (s .radix) (getD counters i 0) (getD matches i 0))
+countedRows s e counters matches = tabulate (s .rows) (λ i. counted (e .kind) (s .radix) (getD counters i 0) (getD matches i 0))
 
--- .. at an opening rows that don't match are flagged, and at the end of each s rows whose counter isn't 0 ..
+-- .. at an opening rows are flagged whose match byte is not that of a sound line, and at the end of each s rows whose counter isn't 0 ..
 unfoldable pub flaggedRows : Shape → Entry → List ℕ → List ℕ → List ℕ → List ℕ
 flaggedRows s e matches counters flags = tabulate (s .rows) (λ i. flagged e (getD matches i 0) (getD counters i 0) (getD flags i 0))
 

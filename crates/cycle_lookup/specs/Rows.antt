@@ -1,12 +1,14 @@
 -- Only serves the code's own contracts: the test that is next, and the buffers that a lookup is made on.
 use mathlib.Core.Path.{_≡_}
-use mathlib.Core.Bool.{Bool}
+use mathlib.Core.Bool.{Bool, cond}
 use mathlib.Core.List.{List}
 use Prim.Native.Nat.{ℕ, _^_, _<_}
+use lib.Dec.{eqb}
 use lib.ListN.{length, getD}
 use Rattle.parity.specs.Shape.{columns as columnsOf}
 use Rattle.parity.specs.Questions.{Taken}
 use Rattle.parity.specs.declared.Shape.{Shape}
+use Rattle.schedule.specs.Schedule.{Entry, opening}
 use Rattle.array_memory.specs.Blocks.{blocksOf}
 use Rattle.array_memory.specs.Lengths.{Sized}
 use Rattle.array_memory.specs.Memory.{Memory}
@@ -37,7 +39,11 @@ pub record FlagsCounted (counterCount flagCount totalCount : ℕ) : Type 0 where
   pub flags : counterCount ≡ flagCount
   pub totals : totalCount ≡ blocksOf flagCount
 
--- what the opening is lent: as many flags and match bytes as lines, and the totals of their blocks
+-- the opening to which a row with a sound line gives this byte, 0 or 1
+abbrev pub openingOf : Shape → ℕ → Entry
+openingOf s byte = opening byte (cond (eqb byte 0) (s .digits) 0) (cond (eqb byte 0) 1 0)
+
+-- what an opening is lent: as many flags and match bytes as lines, and the totals of their blocks
 pub record FlagsLent (lineCount flagCount totalCount matchCount : ℕ) : Type 0 where
   pub matches : lineCount ≡ matchCount
   pub flags : lineCount ≡ flagCount

@@ -1,8 +1,8 @@
 // A test's lookup, which feeds one column.
 use cycle_passes::rows::count_column;
 use cycle_passes::rows::count_matches;
+use cycle_passes::rows::flag_rows;
 use cycle_passes::rows::hold_column;
-use cycle_passes::rows::overwrite;
 use cycle_passes::rows::reduce_rows;
 use cycle_passes::rows::take_column;
 use cycle_passes::totals::total_blocks;
@@ -17,7 +17,7 @@ ghost use Rattle.shape.specs.Lent.{was, left};
 ghost use Rattle.array_memory.specs.Blocks.{blockTotals};
 ghost use Rattle.array_memory.specs.Memory.{Memory};
 ghost use Rattle.array_memory.specs.Buffers.{wasArray, wasAll, leftAll, nowAll};
-ghost use Rattle.cycle_passes.specs.Passes.{columnCells, overwrittenBytes};
+ghost use Rattle.cycle_passes.specs.Passes.{columnCells, flaggedBytes};
 ghost use Rattle.cycle_place.specs.Walk.{testOf};
 ghost use Rattle.cycle_lookup.specs.Lookup.{entryMatches, lookedUp};
 ghost use Rattle.cycle_lookup.specs.Rows.{TestNext, RowsLent, Holding, FlagsCounted};
@@ -27,13 +27,13 @@ ghost use Rattle.cycle_lookup.specs.Rows.{TestNext, RowsLent, Holding, F
 fn end_test(ends: bool, lowest: bool, counters: &mut [u8], flags: &mut [u8], totals: &mut [u8])
     requires { ⌜ FlagsCounted (length (now counters)) (length (now flags)) (length (now totals)) ⌝ }
     ensures counted { λ _. ⌜ left counters ≡ cond (ends && lowest) (replicate (length (was counters)) 0) (was counters) ⌝ }
-    ensures flagged { λ _. ⌜ left flags ≡ cond ends (overwrittenBytes (was counters) 1 (was flags)) (was flags) ⌝ }
+    ensures flagged { λ _. ⌜ left flags ≡ cond ends (flaggedBytes (was counters) 0 (was flags)) (was flags) ⌝ }
     ensures totalled { λ _. ⌜ left totals ≡ cond ends (blockTotals (left flags)) (was totals) ⌝ }
 {
     if !ends {
         return;
     }
-    overwrite(counters, flags, 1);
+    flag_rows(counters, 0, flags);
     total_blocks(flags, totals);
     if !lowest {
         return;

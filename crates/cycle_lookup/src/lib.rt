@@ -1,3 +1,3 @@
-// One lookup of the schedule on all rows, the opening's or a test's.
+// One lookup of the schedule on all rows, an opening's or a test's.
 pub mod column;
 pub mod opening;

@@ -6,6 +6,7 @@ use Prim.Native.Nat.{ℕ, _+_, _*_, _%_, _≤_, _<_}
 use lib.Dec.{eqb}
 use lib.ListN.{length, getD}
 use Rattle.parity.specs.Lists.{tabulate}
+use Rattle.parity.specs.Match.{lineGives}
 use Rattle.acam.specs.Cell.{cellMatch}
 
 -- the cells of column j of m rows of n cells
@@ -22,6 +23,13 @@ columnMatch x lines column = λ i. cellMatch (getD lines i 0) x (getD column i 0
 abbrev pub columnMatches : ℕ → List ℕ → List ℕ → List ℕ
 columnMatches x lines column = tabulate (length column) (columnMatch x lines column)
 
+-- .. and by their lines alone, where every row's cells say the same
+abbrev pub givenByte : ℕ → List ℕ → ℕ → ℕ
+givenByte said lines = λ i. lineGives (getD lines i 0) said
+
+abbrev pub givenBytes : ℕ → List ℕ → ℕ → List ℕ
+givenBytes said lines m = tabulate m (givenByte said lines)
+
 -- the counters' remainders
 abbrev pub reducedByte : ℕ → List ℕ → ℕ → ℕ
 reducedByte ρ counters = λ i. getD counters i 0 % ρ
@@ -36,12 +44,12 @@ countedByte ρ counters matches = λ i. (getD counters i 0 + getD matches i 0) %
 abbrev pub countedBytes : ℕ → List ℕ → List ℕ → List ℕ
 countedBytes ρ counters matches = tabulate (length counters) (countedByte ρ counters matches)
 
--- the bytes, with one byte in each row whose sign isn't 0
-abbrev pub overwrittenByte : List ℕ → ℕ → List ℕ → ℕ → ℕ
-overwrittenByte signs byte bytes = λ i. cond (eqb (getD signs i 0) 0) (getD bytes i 0) byte
+-- the flags, with 1 for each row whose sign isn't the quiet one
+abbrev pub flaggedByte : List ℕ → ℕ → List ℕ → ℕ → ℕ
+flaggedByte signs quiet flags = λ i. cond (eqb (getD signs i 0) quiet) (getD flags i 0) 1
 
-abbrev pub overwrittenBytes : List ℕ → ℕ → List ℕ → List ℕ
-overwrittenBytes signs byte bytes = tabulate (length bytes) (overwrittenByte signs byte bytes)
+abbrev pub flaggedBytes : List ℕ → ℕ → List ℕ → List ℕ
+flaggedBytes signs quiet flags = tabulate (length flags) (flaggedByte signs quiet flags)
 
 -- ---- what the passes ask of their buffers
 

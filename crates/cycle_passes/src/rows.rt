@@ -1,5 +1,6 @@
 // The passes of a step over the rows.
 use acam::compare::cell_match;
+use acam::compare::line_gives;
 use shape::byte::fill;
 use shape::byte::largest;
 use shape::byte::wide;
@@ -8,7 +9,8 @@ ghost use Prim.Native.Nat.{_+_, _%_, _≤_, _<_};
 ghost use lib.ListN.{length, replicate};
 ghost use Rattle.shape.specs.Bounds.{Within};
 ghost use Rattle.shape.specs.Lent.{was, left};
-ghost use Rattle.cycle_passes.specs.Passes.{columnCells, reducedBytes, columnMatches, countedBytes, overwrittenBytes, ColumnLent, ToCount};
+ghost use Rattle.cycle_passes.specs.Passes.{columnCells, reducedBytes, columnMatches, givenBytes, countedBytes, flaggedBytes};
+ghost use Rattle.cycle_passes.specs.Passes.{ColumnLent, ToCount};
 
 // The cells of one column, row after row, from the first.
 pub fn take_down(cells: &[u8], columns: usize, column: usize, bytes: &mut [u8])
@@ -131,18 +133,30 @@ pub fn match_column(lines: &[u8], matches: &mut [u8], input: u8)
     }
 }
 
-// Writes a byte in each row whose sign isn't 0, and leaves the other rows as they are: so 0 goes to the match bytes of dead
-// lines, and 1 to the flags of rows with a counter or, at an opening, a line that isn't 0.
-pub fn overwrite(signs: &[u8], bytes: &mut [u8], byte: u8)
-    requires { ⌜ length (now signs) ≡ length (now bytes) ⌝ }
-    ensures { λ _. ⌜ left bytes ≡ overwrittenBytes (was signs) byte (was bytes) ⌝ }
+// The match byte of each row by its line alone, where every row's cells say the same.
+pub fn match_lines(lines: &[u8], said: u8, matches: &mut [u8])
+    requires { ⌜ length (now lines) ≡ length (now matches) ⌝ }
+    ensures { λ _. ⌜ left matches ≡ givenBytes said (was lines) (length (was matches)) ⌝ }
 {
     let mut i: usize = 0;
-    while i < bytes.len() {
+    while i < matches.len() {
+        matches[i] = line_gives(lines[i], said);
+        i += 1;
+    }
+}
+
+// Flags each row whose sign isn't the quiet one, and leaves the other flags as they are: after a test the sign is the counter,
+// and 0 is quiet; at an opening it is the match byte, and quiet is the one that a sound line gives.
+pub fn flag_rows(signs: &[u8], quiet: u8, flags: &mut [u8])
+    requires { ⌜ length (now signs) ≡ length (now flags) ⌝ }
+    ensures { λ _. ⌜ left flags ≡ flaggedBytes (was signs) quiet (was flags) ⌝ }
+{
+    let mut i: usize = 0;
+    while i < flags.len() {
         // one store for both cases, so that the loop can be compiled to vector code
-        let kept = bytes[i];
-        let new = if signs[i] == 0 { kept } else { byte };
-        bytes[i] = new;
+        let kept = flags[i];
+        let new = if signs[i] == quiet { kept } else { 1 };
+        flags[i] = new;
         i += 1;
     }
 }

@@ -21,7 +21,7 @@ use Rattle.schedule.specs.Index.{IsPlace, supportSize, rank, span, placeIndex, 
 use Rattle.schedule.proofs.Support.{support-some}
 use Rattle.schedule.proofs.Ranks.{factorRank, Factor, stands-support, factor-last, span-step}
 use Rattle.cycle_place.specs.Places.{placeAt, nextAt}
-use Rattle.cycle_place.specs.Walk.{Stands, indexOf}
+use Rattle.cycle_place.specs.Walk.{Stands, afterOpenings, indexOf}
 use Rattle.cycle_place.specs.declared.Place.{Place}
 use Rattle.cycle_place.specs.declared.walk.Next.the-variants as nexts
 use Rattle.cycle_place.proofs.CheckRows.{onesBefore, before-next, heldFrom, Held, held-found, held-some}
@@ -62,7 +62,7 @@ module _ (z : ℕ) (s : Shape) (t : Taken s) where
 
   -- the place of the first lookup of a digit from a column on ..
   start-place :
-      (ℓ d i c : ℕ) → ℓ < checks s → z ≤ d → d < s .digits → i ≤ columns s → rank s ℓ i < supportSize s ℓ → c ≡ suc (columnStart z s ℓ d (rank s ℓ i))
+      (ℓ d i c : ℕ) → ℓ < checks s → z ≤ d → d < s .digits → i ≤ columns s → rank s ℓ i < supportSize s ℓ → c ≡ afterOpenings (columnStart z s ℓ d (rank s ℓ i))
       → AtPlace z s c (placeAt ℓ d (heldFrom (matrix s) ℓ i) 1)
   unfolding rank supportSize support placeIndex
   start-place ℓ d i c row unskipped digit within some e =
@@ -79,20 +79,20 @@ module _ (z : ℕ) (s : Shape) (t : Taken s) where
         high = omega (arith, span-less s t d digit);
         undivided = λ none. omega (arith, mod-eq-of-lt {n = 1} (two s t));
       } in
-      let index : suc (placeIndex z s ℓ d (heldFrom (matrix s) ℓ i) 1) ≡ c =
+      let index : afterOpenings (placeIndex z s ℓ d (heldFrom (matrix s) ℓ i) 1) ≡ c =
       omega (arith, ap (λ r. r * (span s d - span s (suc d))) (held .before), zero-div (s .radix)) in
       (place, index)
 
   -- .. and at its first of all
   first-place :
-      (ℓ d c : ℕ) → ℓ < checks s → z ≤ d → d < s .digits → c ≡ suc (columnStart z s ℓ d 0) → AtPlace z s c (placeAt ℓ d (heldFrom (matrix s) ℓ 0) 1)
+      (ℓ d c : ℕ) → ℓ < checks s → z ≤ d → d < s .digits → c ≡ afterOpenings (columnStart z s ℓ d 0) → AtPlace z s c (placeAt ℓ d (heldFrom (matrix s) ℓ 0) 1)
   unfolding rank supportSize
   first-place ℓ d c row unskipped digit e = start-place ℓ d 0 c row unskipped digit (omega arith) (support-some s t ℓ row) e
 
-  -- ---- the place after the opening
+  -- ---- the place after the openings
 
-  pub place-first : z < s .digits → AtPlace z s 1 (placeAt 0 (s .digits - 1) (heldFrom (matrix s) 0 0) 1)
-  place-first h = first-place 0 (s .digits - 1) 1 (redundancyClaim s t .low) (omega arith) (omega arith) (omega (arith, check-start 0))
+  pub place-first : z < s .digits → AtPlace z s 2 (placeAt 0 (s .digits - 1) (heldFrom (matrix s) 0 0) 1)
+  place-first h = first-place 0 (s .digits - 1) 2 (redundancyClaim s t .low) (omega arith) (omega arith) (omega (arith, check-start 0))
 
 -- ---- the place after a test
 
@@ -185,7 +185,7 @@ module _ (z : ℕ) (s : Shape) (t : Taken s) (p : Place) (place : Stands z s p) 
         let whole : span s (p .digit) ≡ k * s .radix = span-times s t (p .digit) (place .digit) in
         next-last (s .radix) (two s t) (p .factor) k (omega (arith, place .high)) (omega arith) ∙ sym whole
 
-    column-done : count ≡ suc (columnStart z s (p .check) (p .digit) (suc (rank s (p .check) (p .column))))
+    column-done : count ≡ afterOpenings (columnStart z s (p .check) (p .digit) (suc (rank s (p .check) (p .column))))
     unfolding placeIndex
     column-done =
         let d : ℕ = p .digit in
@@ -202,15 +202,15 @@ module _ (z : ℕ) (s : Shape) (t : Taken s) (p : Place) (place : Stands z s p) 
         place-next z s t count _
         (start-place z s t (p .check) (p .digit) (suc (p .column)) count (place .check) (place .unskipped)
         (place .digit) (place .column) (rw column-after more)
-        (column-done ∙ ap (λ r. suc (columnStart z s (p .check) (p .digit) r)) (sym column-after)))
+        (column-done ∙ ap (λ r. afterOpenings (columnStart z s (p .check) (p .digit) r)) (sym column-after)))
 
     module _ (last : supportSize s (p .check) ≤ suc (rank s (p .check) (p .column))) where
       column-last : suc (rank s (p .check) (p .column)) ≡ supportSize s (p .check)
       unfolding supportSize
       column-last = omega (arith, stands-support s t (p .check) (p .column) (place .column) (place .held) .0)
 
-      digit-done : count ≡ suc (columnStart z s (p .check) (p .digit) (supportSize s (p .check)))
-      digit-done = column-done ∙ ap (λ r. suc (columnStart z s (p .check) (p .digit) r)) column-last
+      digit-done : count ≡ afterOpenings (columnStart z s (p .check) (p .digit) (supportSize s (p .check)))
+      digit-done = column-done ∙ ap (λ r. afterOpenings (columnStart z s (p .check) (p .digit) r)) column-last
 
       pub digit-ends : ends ≡ true
       unfolding endsAt
@@ -236,10 +236,10 @@ module _ (z : ℕ) (s : Shape) (t : Taken s) (p : Place) (place : Stands z s p) 
 
       -- at the last digit, the lowest that is not skipped
       module _ (lowest : p .digit ≡ z) where
-        check-done : count ≡ suc (checkStart z s (suc (p .check)))
+        check-done : count ≡ afterOpenings (checkStart z s (suc (p .check)))
         check-done =
-            digit-done ∙ ap (λ d. suc (columnStart z s (p .check) d (supportSize s (p .check)))) lowest
-            ∙ ap suc (check-end z s t (p .check) (omega (arith, place .digit)))
+            digit-done ∙ ap (λ d. afterOpenings (columnStart z s (p .check) d (supportSize s (p .check)))) lowest
+            ∙ ap afterOpenings (check-end z s t (p .check) (omega (arith, place .digit)))
 
         pub follow-check :
             suc (p .check) < checks s
@@ -247,9 +247,9 @@ module _ (z : ℕ) (s : Shape) (t : Taken s) (p : Place) (place : Stands z s p) 
         follow-check more =
             place-next z s t count _
             (first-place z s t (suc (p .check)) (s .digits - 1) count more (omega (arith, place .digit)) (omega (arith, place .digit))
-            (check-done ∙ ap suc (sym (check-start z s t (suc (p .check))))))
+            (check-done ∙ ap afterOpenings (sym (check-start z s t (suc (p .check))))))
 
         pub follow-end : checks s ≤ suc (p .check) → nextAt z s count ≡ nexts.End
         follow-end end =
             let all : suc (p .check) ≡ checks s = omega (arith, place .check) in
-            place-end z s t count (omega (arith, check-done ∙ ap (λ ℓ. suc (checkStart z s ℓ)) all ∙ ap suc (checks-end z s t)))
+            place-end z s t count (omega (arith, check-done ∙ ap (λ ℓ. afterOpenings (checkStart z s ℓ)) all ∙ ap afterOpenings (checks-end z s t)))

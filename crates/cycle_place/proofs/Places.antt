@@ -3,7 +3,7 @@
 use mathlib.Core.Path.{_≡_, refl, sym, ap, subst, _∙_}
 use mathlib.Core.Bool.{true, and-eq-true-iff}
 use Prim.Native.Nat.{ℕ, zero, suc, _≤_, _<_, suc-le-suc}
-use native.Mathlib.Nat.{le-of-suc-le-suc, not-suc-le-zero}
+use native.Mathlib.Nat.{le-of-suc-le-suc}
 use native.Mathlib.Omega.{arith}
 use lib.Dec.{eqb, ltb}
 use lib.ListN.{length}
@@ -16,7 +16,7 @@ use Rattle.schedule.specs.Index.{entryOf}
 use Rattle.schedule.proofs.Length.{tests-length, schedule-length}
 use Rattle.schedule.proofs.Index.{indexClaim}
 use Rattle.cycle_place.specs.Places.{placeAt, placeOf, entryAt, nextAt, samePlace, isPlaceOf}
-use Rattle.cycle_place.specs.Walk.{Stands, indexOf}
+use Rattle.cycle_place.specs.Walk.{Stands, afterOpenings, indexOf}
 use Rattle.cycle_place.specs.declared.Place.{Place}
 use Rattle.cycle_place.specs.declared.walk.Next.the-variants as nexts
 
@@ -51,17 +51,18 @@ module _ (z : ℕ) (s : Shape) (t : Taken s) where
   unfolding entryAt schedule
   place-entry c p at =
       let stands = indexClaim z s t .stands (p .check) (p .digit) (p .column) (p .factor) (at .0) in
-      let below : indexOf z s p < cycleSteps z s = suc-le-suc (rw (tests-length z s t) at (stands .0)) in
+      let below : indexOf z s p < cycleSteps z s = suc-le-suc (suc-le-suc (rw (tests-length z s t) at (stands .0))) in
       (rw (at .1) at below, ap (entryAt z s) (sym (at .1)) ∙ stands .1 (within 0 0 0 0))
 
-  -- .. of the tests, which come after the opening
-  pub test-at : (c : ℕ) → 0 < c → c < cycleSteps z s → AtPlace z s c (placeOf (entryAt z s c))
+  -- .. of the tests, which come after the openings
+  pub test-at : (c : ℕ) → 1 < c → c < cycleSteps z s → AtPlace z s c (placeOf (entryAt z s c))
   unfolding entryAt schedule
-  test-at zero low h = absurd (not-suc-le-zero low)
-  test-at (suc c) low h =
-      let (ℓ, d, j, a, stands, index) = indexClaim z s t .found c (rw (tests-length z s t) (le-of-suc-le-suc h)) in
-      let at : AtPlace z s (suc c) (placeAt ℓ d j a) = (stands, ap suc index) in
-      subst (AtPlace z s (suc c)) (sym (ap placeOf (place-entry (suc c) (placeAt ℓ d j a) at .1))) at
+  test-at zero low h = absurd (omega arith)
+  test-at (suc zero) low h = absurd (omega arith)
+  test-at (suc (suc c)) low h =
+      let (ℓ, d, j, a, stands, index) = indexClaim z s t .found c (rw (tests-length z s t) (le-of-suc-le-suc (le-of-suc-le-suc h))) in
+      let at : AtPlace z s (afterOpenings c) (placeAt ℓ d j a) = (stands, ap afterOpenings index) in
+      subst (AtPlace z s (afterOpenings c)) (sym (ap placeOf (place-entry (afterOpenings c) (placeAt ℓ d j a) at .1))) at
 
   module _ (c : ℕ) where
     pub place-next : (p : Place) → AtPlace z s c p → nextAt z s c ≡ nexts.Place p
@@ -95,7 +96,7 @@ module _ (z : ℕ) (s : Shape) (t : Taken s) where
           same-place p (placeOf (entryAt z s c)) (both .1),
         )
 
-    pub place-at : 0 < c → (p : Place) → isPlaceOf z s c p ≡ true → AtPlace z s c p
+    pub place-at : 1 < c → (p : Place) → isPlaceOf z s c p ≡ true → AtPlace z s c p
     place-at low p e =
         let (some, h, same) = place-is p e in
         subst (AtPlace z s c) (sym same) (test-at c low h)

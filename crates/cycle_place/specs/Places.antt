@@ -4,7 +4,7 @@ use Prim.Native.Nat.{ℕ}
 use lib.Dec.{eqb, ltb}
 use lib.ListN.{length, getD}
 use Rattle.parity.specs.declared.Shape.{Shape}
-use Rattle.schedule.specs.Schedule.{Entry, within, schedule}
+use Rattle.schedule.specs.Schedule.{Kind, opens, counts, Entry, within, schedule}
 use Rattle.cycle_place.specs.declared.Place.{Place}
 use Rattle.cycle_place.specs.declared.walk.Next.{Next}
 use Rattle.cycle_place.specs.declared.walk.Next.the-variants as nexts
@@ -13,9 +13,13 @@ use Rattle.cycle_place.specs.declared.walk.Next.the-variants as nexts
 abbrev pub placeAt : ℕ → ℕ → ℕ → ℕ → Place
 placeAt ℓ s j a = record { check = ℓ; digit = s; column = j; factor = a }
 
--- the place of an entry of the schedule; that of the opening, and of no other, is all 0
+-- the place of an entry of the schedule: that of an opening is all 0, and no test's is; the two openings have different counts
+abbrev pub placeBy : Kind → Place → Place
+placeBy (opens byte) own = placeAt 0 0 0 0
+placeBy counts own = own
+
 abbrev pub placeOf : Entry → Place
-placeOf e = placeAt (e .check) (e .digit) (e .column) (e .factor)
+placeOf e = placeBy (e .kind) (placeAt (e .check) (e .digit) (e .column) (e .factor))
 
 -- the schedule's entry c, counted from 0
 unfoldable pub entryAt : ℕ → Shape → ℕ → Entry

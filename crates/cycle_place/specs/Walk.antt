@@ -22,9 +22,13 @@ use Rattle.cycle_place.specs.declared.walk.Located.the-variants.{Opening
 abbrev pub Stands : ℕ → Shape → Place → Type 0
 Stands z s p = IsPlace z s (p .check) (p .digit) (p .column) (p .factor)
 
--- how many lookups come before the test at a place: the opening, and the tests before it
+-- as many lookups as tests, and the two openings before them
+abbrev pub afterOpenings : ℕ → ℕ
+afterOpenings c = suc (suc c)
+
+-- how many lookups come before the test at a place: the openings, and the tests before it
 abbrev pub indexOf : ℕ → Shape → Place → ℕ
-indexOf z s p = suc (placeIndex z s (p .check) (p .digit) (p .column) (p .factor))
+indexOf z s p = afterOpenings (placeIndex z s (p .check) (p .digit) (p .column) (p .factor))
 
 -- the test at a place
 abbrev pub testOf : ℕ → Shape → Place → Entry
@@ -38,10 +42,12 @@ soughtAt z s c p = cond (isPlaceOf z s c p) (soughts.At (span s (p .digit))) sou
 abbrev pub hereAt : ℕ → Shape → ℕ → Place → Here
 hereAt z s c p = record { ends = endsAt s (p .check) (p .digit) (p .column) (p .factor); next = nextAt z s (suc c) }
 
--- what a step is told at the place of the lookup after c others: of the opening where there are none, else of a test
+-- what a step is told at the place of the lookup after c others: of the first opening where there are none, of the second where there is one, each with the
+-- byte that a row with a sound line gives, else of a test
 abbrev pub toldAt : ℕ → Shape → ℕ → Place → Located
-toldAt z s zero p = Opening (nextAt z s 1)
-toldAt z s (suc c) p = Test (hereAt z s (suc c) p)
+toldAt z s zero p = Opening 1 (nextAt z s 1)
+toldAt z s (suc zero) p = Opening 0 (nextAt z s 2)
+toldAt z s (suc (suc c)) p = Test (hereAt z s (suc (suc c)) p)
 
 -- .. and elsewhere nothing
 abbrev pub locatedAt : ℕ → Shape → ℕ → Place → Located

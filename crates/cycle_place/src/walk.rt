@@ -35,9 +35,10 @@ pub struct Here {
     pub next: Next,
 }
 
-// What a place is: that of the opening, with the place after it, that of a test, or none.
+// What a place is: that of an opening, with the match byte that a row with a sound line gives it and the place after it, that of
+// a test, or none.
 pub enum Located {
-    Opening(Next),
+    Opening(u8, Next),
     Test(Here),
     Elsewhere,
 }
@@ -68,7 +69,7 @@ fn locate_test(
     padded: &[u8],
 ) -> Sought
     requires { ⌜ PaddedLent shape checks columns (now padded) ⌝ }
-    requires { ⌜ 0 < count ⌝ }
+    requires { ⌜ 1 < count ⌝ }
     ensures { λ r. ⌜ r ≡ soughtAt skip shape count place ⌝ }
 {
     let check = place.check;
@@ -99,17 +100,17 @@ fn locate_test(
     let survey = survey_check(padded, check, column);
     // q / ρ^z
     let levels = scale(span, radix, digit - skip);
-    // the opening comes before the tests
-    if index_of(levels, radix, factor, next, survey) + 1 != count {
+    // the two openings come before the tests
+    if index_of(levels, radix, factor, next, survey) + 2 != count {
         return Sought::Elsewhere;
     }
     Sought::At(span)
 }
 
-// The place of a cycle's first test, which comes after the opening, whatever digits it skips.
-fn first(shape: Shape, matrix: &[u8]) -> Place
+// The place of a cycle's first test, which comes after the openings, whatever digits it skips.
+pub fn first(shape: Shape, matrix: &[u8]) -> Place
     requires { ⌜ MatrixLent shape (checksOf shape) (now matrix) ⌝ }
-    ensures { λ r. ⌜ ((z : ℕ) → z < shape .digits → nextAt z shape 1 ≡ NextPlace r) ⌝ }
+    ensures { λ r. ⌜ ((z : ℕ) → z < shape .digits → nextAt z shape 2 ≡ NextPlace r) ⌝ }
 {
     let digits = shape.digits;
     Place {
@@ -178,10 +179,11 @@ pub fn follow(
     }
 }
 
-// The first lookup, if its place is the opening's, all 0, in a cycle that does not skip all digits.
-fn locate_opening(place: Place, skip: usize, shape: Shape, matrix: &[u8]) -> Located
+// One of the first two lookups, if its place is an opening's, all 0, in a cycle that does not skip all digits.
+fn locate_opening(place: Place, skip: usize, count: usize, shape: Shape, matrix: &[u8]) -> Located
     requires { ⌜ MatrixLent shape (checksOf shape) (now matrix) ⌝ }
-    ensures { λ r. ⌜ r ≡ locatedAt skip shape 0 place ⌝ }
+    requires { ⌜ count < 2 ⌝ }
+    ensures { λ r. ⌜ r ≡ locatedAt skip shape count place ⌝ }
 {
     if shape.digits <= skip {
         return Located::Elsewhere;
@@ -189,7 +191,10 @@ fn locate_opening(place: Place, skip: usize, shape: Shape, matrix: &[u8]) -> Loc
     if !is_zero(place) {
         return Located::Elsewhere;
     }
-    Located::Opening(Next::Place(first(shape, matrix)))
+    if count == 0 {
+        return Located::Opening(1, Next::Place(place));
+    }
+    Located::Opening(0, Next::Place(first(shape, matrix)))
 }
 
 // The lookup that comes after so many others, if its place is this one.
@@ -205,8 +210,8 @@ pub fn locate(
     requires { ⌜ PaddedLent shape checks columns (now padded) ⌝ }
     ensures { λ r. ⌜ r ≡ locatedAt skip shape count place ⌝ }
 {
-    if count == 0 {
-        return locate_opening(place, skip, shape, &padded[..columns]);
+    if count < 2 {
+        return locate_opening(place, skip, count, shape, &padded[..columns]);
     }
     match locate_test(place, skip, count, shape, checks, columns, padded) {
         Sought::Elsewhere => Located::Elsewhere,

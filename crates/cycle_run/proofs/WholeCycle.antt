@@ -24,7 +24,7 @@ module _ (z : ℕ) (s : Shape) (t : Taken s) (some : z < s .digits) where
       → stepping s n (giving (accepted 0) buffer st) ≡ giving (accepted 0) (lastMatches z s (st .memory)) (afterSteps s st (replicate k given))
   unfolding lastMatches stepMatches stepped steppedMemory lookedUp entryMatches
   stepping-all given l zero n c st at e h buffer sized made =
-      let last : c - 1 ≡ lookups z s = omega arith in
+      let last : c - 1 ≡ suc (lookups z s) = omega arith in
       stepping-closed s n (giving (accepted 0) buffer st) (phase z s t some c st at ∙ le-ltb c (cycleSteps z s) (omega arith))
       ∙ ap (λ bytes. giving (accepted 0) bytes st) (made (omega arith) ∙ ap (λ c. entryMatches s (entryAt z s c) (st .memory)) last)
   stepping-all given l (suc k) zero c st at e h buffer sized made = absurd (omega arith)

@@ -1,6 +1,6 @@
 -- A whole cycle as one call.
 use mathlib.Core.List.{List}
-use Prim.Native.Nat.{ℕ}
+use Prim.Native.Nat.{ℕ, suc}
 use lib.ListN.{length, replicate}
 use Rattle.parity.specs.Matrix.{lookups, cycleSteps}
 use Rattle.parity.specs.Questions.{Question}
@@ -18,9 +18,9 @@ use Rattle.cycle_steps.specs.Steps.{afterSteps}
 abbrev pub cycleQuestions : Shape → Memory → ℕ → List ℕ → List Question
 cycleQuestions s mem z matches = lentQuestions s (startArguments s z) (allLengths mem) (length matches)
 
--- the match bytes of a cycle's last lookup, which comes after the opening and all tests but itself
+-- the match bytes of a cycle's last lookup, which comes after the two openings and all tests but itself
 unfoldable pub lastMatches : ℕ → Shape → Memory → List ℕ
-lastMatches z s mem = entryMatches s (entryAt z s (lookups z s)) mem
+lastMatches z s mem = entryMatches s (entryAt z s (suc (lookups z s))) mem
 
 -- a start and all the steps of a cycle; the match bytes are those of its last lookup
 unfoldable pub cycleCall : Shape → State → ℕ → List ℕ → Result State

@@ -11,7 +11,7 @@ exampleOne = record { radix = 2; digits = 3; errors = 2; width = 50; rows = 512 
 abbrev pub SizesExampleClaim : Type 0
 SizesExampleClaim =
     map (sizesCall exampleOne) (0 ∷ 1 ∷ 3 ∷ [])
-    ≡ accepted (record { levels = 8; checks = 6; columns = 56; cells = 28672; blocks = 8; steps = 1093 })
-    ∷ accepted (record { levels = 8; checks = 6; columns = 56; cells = 28672; blocks = 8; steps = 469 })
+    ≡ accepted (record { levels = 8; checks = 6; columns = 56; cells = 28672; blocks = 8; steps = 1094 })
+    ∷ accepted (record { levels = 8; checks = 6; columns = 56; cells = 28672; blocks = 8; steps = 470 })
     ∷ refused noCycleSizes 15
     ∷ []

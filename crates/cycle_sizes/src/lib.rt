@@ -29,7 +29,7 @@ pub struct CycleSizes {
     pub cells: usize,
     // ⌈m / 64⌉
     pub blocks: usize,
-    // of a cycle, its opening among them
+    // of a cycle, its two openings among them
     pub steps: usize,
 }
 
@@ -61,7 +61,7 @@ fn check_sizes(shape: Shape, skip: usize) -> Checked
     check_shape(shape).check(15, skip < shape.digits)
 }
 
-// The opening, and q / ρ^z − 1 lookups for each one of the check matrix.
+// The two openings, and q / ρ^z − 1 lookups for each one of the check matrix.
 fn count_steps(shape: Shape, sizes: Sizes, skip: usize) -> usize
     requires { ⌜ Passed (sizesQuestions shape skip) shape sizes ⌝ }
     ensures { λ r. ⌜ r ≡ cycleSteps skip shape ⌝ }
@@ -70,7 +70,7 @@ fn count_steps(shape: Shape, sizes: Sizes, skip: usize) -> usize
     let columns = sizes.columns;
     let matrix = matrix_of(shape, checks);
     let span = scale(1, shape.radix, shape.digits - skip);
-    1 + (span - 1) * count_ones(&matrix[..columns])
+    2 + (span - 1) * count_ones(&matrix[..columns])
 }
 
 // Sizes: q, r, n, m × n, the blocks of rows, and the steps of a cycle that skips so many low digits.

@@ -2,7 +2,7 @@
 use mathlib.Core.Path.{_≡_, refl, sym, ap, ap₂, subst, _∙_}
 use mathlib.Core.Bool.{true}
 use mathlib.Core.List.{List}
-use Prim.Native.Nat.{ℕ, zero, suc, _<_}
+use Prim.Native.Nat.{ℕ, zero, suc, _≤_, _<_}
 use native.Mathlib.Omega.{arith}
 use lib.ListN.{length, getD}
 use borrow.Author.Tests.{ltb-true}
@@ -29,17 +29,17 @@ use Rattle.cycle.specs.declared.Cycle.{Cycle}
 use Rattle.cycle.proofs.CycleRecord.{record-count, record-skip, next-open, next-place}
 use Rattle.cycle.proofs.Steps.{stepped-sized}
 use Rattle.cycle_steps.specs.Steps.{stepping}
-use Rattle.cycle_steps.specs.Tests.{TestsLeft, testedAt}
+use Rattle.cycle_steps.specs.Tests.{LookupsLeft, testedAt}
 use Rattle.cycle_steps.proofs.Stepping.{open-below, stepping-next}
 
 -- ---- a record whose next lookup is a test
 
-module _ (s : Shape) (t : Taken s) (cycle : Cycle) (tests : TestsLeft s cycle) where
+module _ (s : Shape) (t : Taken s) (cycle : Cycle) (tests : LookupsLeft s 2 cycle) where
   pub test-place : AtPlace (cycle .skip) s (cycle .count) (cycle .place)
   test-place =
       let next : isNext s cycle ≡ true =
       ap (isNext s) (tests .stands) ∙ next-open (cycle .skip) s t (cycle .count) (tests .partial) (tests .more) in
-      next-place s t cycle (tests .opened) next
+      next-place s t cycle (tests .made) next
 
   pub test-entry : nextEntry s cycle ≡ testOf (cycle .skip) s (cycle .place)
   test-entry = place-entry (cycle .skip) s t (cycle .count) (cycle .place) test-place .1
@@ -80,11 +80,11 @@ module _ (s : Shape) (t : Taken s) (cycle : Cycle) (tests : TestsLeft s cycle) w
 
 -- ---- the column held
 
--- the record after some steps, the opening among them, and the cells of the last test's column in the place of the match bytes
+-- the record after some steps, the openings among them, and the cells of the last test's column in the place of the match bytes
 pub record Held (z : ℕ) (s : Shape) (cells lines counters flags totals matches : List ℕ) (now : Cycle) (last : Place) : Type 0 where
   pub sized : Sized s (withAll cells lines counters flags totals noMemory)
   pub cycle : now ≡ cycleAt z s (now .count)
-  pub opened : 0 < now .count
+  pub opened : 2 ≤ now .count
   pub stands : Stands z s last
   pub column : matches ≡ columnCells (columns s) (last .column) cells (s .rows)
   pub below : (i : ℕ) → i < length counters → getD counters i 0 < s .radix
@@ -100,11 +100,11 @@ module _
     before-end = ltb-true (now .count) (cycleSteps z s) (sym (ap (λ r. isOpen (r .phase)) (h .cycle) ∙ open-below z s t (now .count)) ∙ open-now)
 
     -- a test is next
-    left : TestsLeft s now
+    left : LookupsLeft s 2 now
     left =
         record {
           partial = rw own-skip some;
-          opened = h .opened;
+          made = h .opened;
           more = rw own-skip before-end;
           stands = h .cycle ∙ ap (λ z. cycleAt z s (now .count)) (sym own-skip);
         }
@@ -144,7 +144,7 @@ module _
             record {
               sized = after-memory;
               cycle = after-is ∙ ap (cycleAt z s) (sym after-count);
-              opened = omega (arith, after-count);
+              opened = omega (arith, h .opened, after-count);
               stands = at-test .0;
               column = taken;
               below = λ i l.

@@ -1,7 +1,7 @@
--- Only serves the code's own contracts: a record whose next lookup is a test, what a test gives, and what is held from one test to the next.
+-- Only serves the code's own contracts: a record with lookups to come, what a test gives, and what is held from one test to the next.
 use mathlib.Core.Path.{_≡_}
 use mathlib.Core.List.{List}
-use Prim.Native.Nat.{ℕ, _<_}
+use Prim.Native.Nat.{ℕ, _≤_, _<_}
 use lib.ListN.{length, getD}
 use Rattle.parity.specs.Matrix.{cycleSteps}
 use Rattle.parity.specs.Shape.{columns}
@@ -16,10 +16,10 @@ use Rattle.cycle.specs.Record.{cycleAt}
 use Rattle.cycle.specs.declared.Cycle.{Cycle}
 use Rattle.cycle_passes.specs.Passes.{columnCells}
 
--- a cycle's record after its opening and before its end
-pub record TestsLeft (s : Shape) (cycle : Cycle) : Type 0 where
+-- a cycle's record after so many lookups at least, and before its end; after two its next lookup is a test
+pub record LookupsLeft (s : Shape) (least : ℕ) (cycle : Cycle) : Type 0 where
   pub partial : cycle .skip < s .digits
-  pub opened : 0 < cycle .count
+  pub made : least ≤ cycle .count
   pub more : cycle .count < cycleSteps (cycle .skip) s
   pub stands : cycle ≡ cycleAt (cycle .skip) s (cycle .count)
 

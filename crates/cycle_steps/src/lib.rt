@@ -17,6 +17,8 @@ use cycle_place::digits::digit_of;
 use cycle_place::digits::hold_digit;
 use cycle_place::factors::scale;
 use cycle_place::walk::Located;
+use cycle_place::walk::Next;
+use cycle_place::walk::first;
 use cycle_place::walk::follow;
 use parity::Shape;
 use shape::sizes::Checked;
@@ -39,7 +41,7 @@ ghost use Rattle.cycle_place.specs.Walk.{Stands, MatrixLent, PaddedLent};
 ghost use Rattle.cycle.specs.Calls.{stateOf};
 ghost use Rattle.cycle.specs.Methods.{changing, doneWith};
 ghost use Rattle.cycle_steps.specs.Steps.{stepping, stepsCall};
-ghost use Rattle.cycle_steps.specs.Tests.{TestsLeft, testedAt, ColumnHeld};
+ghost use Rattle.cycle_steps.specs.Tests.{LookupsLeft, testedAt, ColumnHeld};
 
 // The record after some tests, and the place of the last of them.
 pub(crate) struct Tested {
@@ -64,7 +66,7 @@ fn count_tests(
 ) -> Tested
     requires { ⌜ MatrixLent shape checks (now matrix) ⌝ }
     requires { ⌜ RowsLent shape (nowAll cells lines counters flags totals) (length (now matches)) ⌝ }
-    requires { ⌜ TestsLeft shape cycle ⌝ }
+    requires { ⌜ LookupsLeft shape 2 cycle ⌝ }
     requires { ⌜ ColumnHeld shape (cycle .place .column) (now cells) (now counters) (now matches) ⌝ }
     ensures stands { λ r. ⌜ Stands (cycle .skip) shape (r .last) ⌝ }
     ensures held { λ r. ⌜ left matches ≡ columnCells (length (was matrix)) (r .last .column) (was cells) (length (was matches)) ⌝ }
@@ -122,7 +124,7 @@ fn make_tests(
 ) -> Cycle
     requires { ⌜ MatrixLent shape checks (now matrix) ⌝ }
     requires { ⌜ RowsLent shape (nowAll cells lines counters flags totals) (length (now matches)) ⌝ }
-    requires { ⌜ TestsLeft shape cycle ⌝ }
+    requires { ⌜ LookupsLeft shape 2 cycle ⌝ }
     ensures { λ r. ⌜ ((mem : Memory)
         → stepping shape most (giving (accepted 0) (was matches) (stateOf (wasAll cells lines counters flags totals mem) cycle))
         ≡ changing (doneWith r) (left matches) (leftAll cells lines counters flags totals mem)) ⌝ }
@@ -153,6 +155,62 @@ fn make_tests(
     tested.cycle
 }
 
+// The steps after an opening: the second one, where it was the first, and then the tests.
+fn make_rest(
+    cycle: Cycle,
+    most: usize,
+    shape: Shape,
+    checks: usize,
+    matrix: &[u8],
+    cells: &[u8],
+    lines: &[u8],
+    counters: &mut [u8],
+    flags: &mut [u8],
+    totals: &mut [u8],
+    matches: &mut [u8],
+) -> Cycle
+    requires { ⌜ MatrixLent shape checks (now matrix) ⌝ }
+    requires { ⌜ RowsLent shape (nowAll cells lines counters flags totals) (length (now matches)) ⌝ }
+    requires { ⌜ LookupsLeft shape 1 cycle ⌝ }
+    ensures { λ r. ⌜ ((mem : Memory)
+        → stepping shape most (giving (accepted 0) (was matches) (stateOf (wasAll cells lines counters flags totals mem) cycle))
+        ≡ changing (doneWith r) (left matches) (leftAll cells lines counters flags totals mem)) ⌝ }
+{
+    if cycle.count != 1 {
+        return make_tests(
+            cycle,
+            most,
+            shape,
+            checks,
+            matrix,
+            cells,
+            lines,
+            counters,
+            flags,
+            totals,
+            matches,
+        );
+    }
+    if most == 0 {
+        return cycle;
+    }
+    let test = first(shape, matrix);
+    make_opening(0, lines, flags, totals, matches);
+    make_tests(
+        cycle.moved(Next::Place(test)),
+        most - 1,
+        shape,
+        checks,
+        matrix,
+        cells,
+        lines,
+        counters,
+        flags,
+        totals,
+        matches,
+    )
+}
+
 // The steps by the check matrix, padded with 0: question 9, and then the lookups.
 fn steps_at(
     cycle: Cycle,
@@ -175,12 +233,12 @@ fn steps_at(
 {
     match cycle.locate(shape, checks, columns, padded) {
         Located::Elsewhere => refused(cycle, 9),
-        Located::Opening(next) => {
+        Located::Opening(byte, next) => {
             if most == 0 {
                 return done(cycle);
             }
-            make_opening(lines, flags, totals, matches);
-            done(make_tests(
+            make_opening(byte, lines, flags, totals, matches);
+            done(make_rest(
                 cycle.moved(next),
                 most - 1,
                 shape,

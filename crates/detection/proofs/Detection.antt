@@ -1,5 +1,5 @@
 -- After every list of calls the state is as the log says, and the flags at the end of a cycle in which nothing has changed are right: seen above the
--- digits that it skips, and so demand 3's own sentence and those of Cards 2 and 4. Assumes nothing.
+-- digits that it skips, and so demand 3's own sentence and those of Cards 2, 4 and 7. Assumes nothing.
 use mathlib.Core.Path.{_≡_, refl, sym, ap, ap₂, subst, _∙_}
 use mathlib.Core.Logic.{_↔_, _≢_}
 use mathlib.Core.Bool.{Bool, true, false, cond, _&&_}
@@ -54,9 +54,9 @@ open≢ended : open-cycle ≡ ended → ⊥
 unfolding number
 open≢ended e = let never : _≡_ {A = ℕ} 1 2 = ap number e in absurd (omega arith)
 
--- a dead line's flag is 1
-dead-flag : (line : ℕ) → line ≢ 0 → (b : Bool) → _≡_ {A = ℕ} (cond (eqb line 0 && b) 0 1) 1
-dead-flag line dead b = ap (λ a. cond (a && b) 0 1) (ne-eqb line 0 dead)
+-- the flag of a line that isn't sound is 1
+unsound-flag : (line : ℕ) → line ≢ 0 → (b : Bool) → _≡_ {A = ℕ} (cond (eqb line 0 && b) 0 1) 1
+unsound-flag line unsound b = ap (λ a. cond (a && b) 0 1) (ne-eqb line 0 unsound)
 
 module _ (s : Shape) (t : Taken s) where
   -- the flag that says whether the line is sound and the row as it stands is balanced from z on is right, where its floors differ in at most τ cells
@@ -72,7 +72,7 @@ module _ (s : Shape) (t : Taken s) where
             ∙ ap₂ (λ a b. cond (a && b) 0 1) (eq-eqb line 0 sound)
             (test .1 (floors-balanced z s t lt written standing same (λ ℓ d h low k. code .balanced ℓ d h k)));
         changed = λ apart. e ∙ go apart (eqb line 0) (isBalancedFrom z s standing) refl;
-        dead = λ dead. e ∙ dead-flag line dead (isBalancedFrom z s standing);
+        unsound = λ unsound. e ∙ unsound-flag line unsound (isBalancedFrom z s standing);
       }
     where
       test : (isBalancedFrom z s standing ≡ true) ↔ BalancedFrom z s standing
@@ -137,7 +137,7 @@ module _ (s : Shape) (t : Taken s) where
     course-ended : InCourse s st ended (l .cycle .skip) (l .cycle .count) (l .marks .changed)
     course-ended = subst (λ k. InCourse s st k (l .cycle .skip) (l .cycle .count) (l .marks .changed)) e (a .course)
 
-    -- at the end of a cycle in which nothing has changed the flags say which rows have a dead line or a digit sum from z on that is not 0 ..
+    -- at the end of a cycle in which nothing has changed the flags say which rows have a line that isn't sound or a digit sum from z on that is not 0 ..
     pub ended-flag :
         l .marks .changed ≡ false → (i : ℕ) → i < s .rows
         → getD (st .memory .flags) i 0 ≡ cond (eqb (getD (l .rows .lines) i 0) 0 && isBalancedFrom (l .cycle .skip) s (getD (l .rows .standing) i [])) 0 1
@@ -148,7 +148,7 @@ module _ (s : Shape) (t : Taken s) where
         tallies-ended s st t (l .cycle .skip) (rw (f .1) at (f .0 .tallies off)) i h (ap length row ∙ c .sized) (rw row (c .below))
         ∙ ap₂ (λ lines r. cond (eqb (getD lines i 0) 0 && isBalancedFrom (l .cycle .skip) s r) 0 1) (a .lines) row
 
-    -- .. and where no digit was skipped, which rows have a dead line or are not sound
+    -- .. and where no digit was skipped, which rows have a line that isn't sound or are not sound
     pub ended-sound :
         l .cycle .skip ≡ 0 → l .marks .changed ≡ false → (i : ℕ) → i < s .rows
         → getD (st .memory .flags) i 0 ≡ cond (eqb (getD (l .rows .lines) i 0) 0 && isCodeword s (getD (l .rows .standing) i [])) 0 1
@@ -180,7 +180,7 @@ detectionClaim s t calls =
           λ (is, off) i h near.
           right-flag s t (l .cycle .skip) (course-ended s t st l a is .0 .partial) (lineAt s calls i) (wroteAt s calls i) (standsAt s calls i)
           (flagAt s calls i) (written-row s _ _ _ (a .rows) i h) (standing-row s _ _ _ (a .rows) i h) near (ended-flag s t st l a is off i h);
-      dead = λ (is, off) i h dead. ended-flag s t st l a is off i h ∙ dead-flag (getD (l .rows .lines) i 0) dead _;
+      unsound = λ (is, off) i h unsound. ended-flag s t st l a is off i h ∙ unsound-flag (getD (l .rows .lines) i 0) unsound _;
     }
 
 -- where no digit is skipped the cycle has (q − 1) × W tests
@@ -196,7 +196,7 @@ whole-rows z e s line x y flag r =
     record {
       unchanged = λ sound same. r .unchanged sound (all x ∙ same ∙ sym (all y));
       changed = λ apart. r .changed (λ same. apart (sym (all x) ∙ same ∙ all y));
-      dead = r .dead;
+      unsound = r .unsound;
     }
 
 pub coarseClaim : CoarseClaim
@@ -207,7 +207,7 @@ coarseClaim s t calls still i h near =
 pub demandClaim : DemandClaim
 demandClaim s t calls fine =
     let d = detectionClaim s t calls in
-    let length = ap (λ z. cycleSteps z s) fine ∙ ap suc (whole-length s) in
+    let length = ap (λ z. cycleSteps z s) fine ∙ ap (λ n. suc (suc n)) (whole-length s) in
     record {
       open-below = λ e. rw length at (d .open-below e);
       ended-at = λ e. d .ended-at e ∙ length;

@@ -139,7 +139,7 @@ module _ (s : Shape) (t : Taken s) (st : State) (l : Log) (a : Agrees s st l) wh
             rest = started-sized s st lent z .rows;
             course = (
               record { partial = skip-below s z e; stands = stands-at z s 0 _ refl; tallies = λ off. started-tallies s st z },
-              zero-lt-suc (lookups z s),
+              zero-lt-suc (suc (lookups z s)),
             );
           }
 

@@ -1,7 +1,7 @@
 -- An opening leaves the counters as it found them. Assumes nothing.
 use mathlib.Core.Path.{_≡_, refl, sym, ap, _∙_}
 use mathlib.Core.List.{List, [], _∷_}
-use Prim.Native.Nat.{ℕ}
+use Prim.Native.Nat.{ℕ, zero, suc, _<_}
 use native.Mathlib.Omega.{arith}
 use lib.Dec.{lit<}
 use lib.ListN.{length, getD}
@@ -11,8 +11,8 @@ use Rattle.parity.specs.Questions.{Question, firstNo, lengthsQuestion}
 use Rattle.parity.specs.declared.Shape.{Shape}
 use Rattle.parity.proofs.ListLaws.{length-tabulate, getD-tabulate}
 use Rattle.array_questions.specs.Questions.{stepArguments, lentQuestions}
-use Rattle.schedule.specs.Schedule.{Entry, opening, schedule}
-use Rattle.schedule.specs.Tally.{counted, reset}
+use Rattle.schedule.specs.Schedule.{Entry, opening, deadOpening, shortedOpening, schedule}
+use Rattle.schedule.specs.Tally.{reset}
 use Rattle.shape.specs.Answers.{accepted, giving}
 use Rattle.shape.proofs.Calling.{call-done, call-taken}
 use Rattle.shape.proofs.Refusals.{first-none, call-passed}
@@ -32,11 +32,22 @@ read-all bytes m e =
     ext-getD 0 (tabulate m read) bytes (many ∙ sym e) (λ i h. getD-tabulate m read i 0 (omega arith))
 
 -- an opening counts and resets nothing
-opened : (s : Shape) (counters matches : List ℕ) → length counters ≡ s .rows → resetRows s opening (countedRows s opening counters matches) ≡ counters
-unfolding countedRows resetRows counted reset
-opened s counters matches e =
+opened :
+    (s : Shape) (byte d a : ℕ) (counters matches : List ℕ) → length counters ≡ s .rows
+    → resetRows s (opening byte d a) (countedRows s (opening byte d a) counters matches) ≡ counters
+unfolding countedRows resetRows reset
+opened s byte d a counters matches e =
     let read = read-all counters (s .rows) e in
     ap (λ bytes. tabulate (s .rows) (λ i. getD bytes i 0)) read ∙ read
+
+-- the first two entries are openings
+first-two :
+    (z : ℕ) (s : Shape) (c : ℕ) → c < 2 → (counters : List ℕ) (bytes : Entry → List ℕ) → length counters ≡ s .rows
+    → let e = entryAt z s c in resetRows s e (countedRows s e counters (bytes e)) ≡ counters
+unfolding entryAt schedule
+first-two z s zero h counters bytes e = opened s 1 0 0 counters (bytes deadOpening) e
+first-two z s (suc zero) h counters bytes e = opened s 0 (s .digits) 1 counters (bytes (shortedOpening s)) e
+first-two z s (suc (suc c)) h counters bytes e = absurd (omega arith)
 
 -- a step that is taken is lent buffers of their lengths
 step-sized : (s : Shape) (st : State) (matches : List ℕ) → firstNo (stepQuestions s st matches) ≡ 0 → Sized s (st .memory)
@@ -47,11 +58,10 @@ step-sized s st matches none =
     (call-passed s [] six (stepArguments s (length matches)) refl (lit< tt) (first-none lent (cycleQuestion s (st .cycle) ∷ []) refl none .0) .lent)
 
 pub openingClaim : OpeningClaim
-unfolding stepCall stepped steppedMemory lookedUp entryAt schedule
-openingClaim s st matches taken first =
+unfolding stepCall stepped steppedMemory lookedUp
+openingClaim s st matches taken early =
     let done = giving (accepted 0) (stepMatches s st) (stepped s st) in
     let none = call-taken (stepQuestions s st matches) matches st done taken in
-    let bytes : Entry → List ℕ = λ e. entryMatches s e (st .memory) in
     ap (λ r. r .state .memory .counters) (call-done (stepQuestions s st matches) matches st done none)
-    ∙ ap (λ c. let e = entryAt (st .cycle .skip) s c in resetRows s e (countedRows s e (st .memory .counters) (bytes e))) first
-    ∙ opened s (st .memory .counters) (bytes opening) (step-sized s st matches none .rows .counters)
+    ∙ first-two (st .cycle .skip) s (st .cycle .count) early (st .memory .counters) (λ e. entryMatches s e (st .memory))
+    (step-sized s st matches none .rows .counters)

@@ -1,5 +1,5 @@
--- On an array that stays still a whole cycle leaves flags that say which rows have a dead line or a digit sum from z on that is not 0, and from 0 on
--- which rows have a dead line or are not sound. Assumes nothing.
+-- On an array that stays still a whole cycle leaves flags that say which rows have a line that isn't sound or a digit sum from z on that is not 0, and from
+-- 0 on which rows have a line that isn't sound or are not sound. Assumes nothing.
 use mathlib.Core.Path.{_≡_, sym, ap, ap₂, _∙_}
 use mathlib.Core.Bool.{cond, _&&_}
 use mathlib.Core.List.{List}

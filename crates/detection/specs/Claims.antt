@@ -36,11 +36,11 @@ coursePhase none = Idle
 coursePhase open-cycle = Open
 coursePhase ended = Complete
 
--- flag 0 where a row's line is sound and what is seen of its two forms is equal, and 1 where the line is dead or what is seen differs
+-- flag 0 where a row's line is sound and what is seen of its two forms is equal, and 1 where what is seen differs or the line, dead or shorted, isn't sound
 pub record RightFlag (lineByte : ℕ) (written standing : List ℕ) (flag : ℕ) : Type 0 where
   pub unchanged : lineByte ≡ 0 → written ≡ standing → flag ≡ 0
   pub changed : (written ≡ standing → ⊥) → flag ≡ 1
-  pub dead : lineByte ≢ 0 → flag ≡ 1
+  pub unsound : lineByte ≢ 0 → flag ≡ 1
 
 -- row i after a list of calls: as written, as it stands, its line, its flag, and what the cycle keeps of it
 abbrev pub wroteAt : Shape → List Call → ℕ → List ℕ
@@ -72,11 +72,11 @@ EndedUnmarked s calls = (log s calls .cycle .course ≡ ended) × (log s calls .
 
 -- After a list of calls the cells are the rows as they stand, the lines are the log's, every written row is sound, and the record is idle, open or
 -- complete as the log's cycle is none, open or ended, with the log's count and the log's z. A cycle ends exactly at its accepted step
--- 1 + (q / ρ^z − 1) × W: the count is that number where it has ended and below it where it is open. While it is open or has ended, and nothing has changed
+-- 2 + (q / ρ^z − 1) × W: the count is that number where it has ended and below it where it is open. While it is open or has ended, and nothing has changed
 -- since its start, counter and flag of each row are what the lookups made so far give of its line and its cells, whatever calls stood between; and at its
--- end the flag tells whether the line is dead or a digit sum from z on isn't 0, however many cells differ. So where it has ended and nothing has changed
+-- end the flag tells whether the line isn't sound or a digit sum from z on isn't 0, however many cells differ. So where it has ended and nothing has changed
 -- since its start, each row of whose cells at most τ differ between its two forms in floor(level / ρ^z) has flag 0 if none does and its line is sound, and 1
--- if some do or its line is dead. A row with a dead line has flag 1 however many cells differ.
+-- if some do or its line, dead or shorted, isn't sound. A row whose line isn't sound has flag 1 however many cells differ.
 pub record Detects (s : Shape) (calls : List Call) : Type 0 where
   pub cells : run s calls .memory .cells ≡ flat (log s calls .rows .standing)
   pub lines : run s calls .memory .lines ≡ log s calls .rows .lines
@@ -96,7 +96,7 @@ pub record Detects (s : Shape) (calls : List Call) : Type 0 where
       EndedStill s calls → (i : ℕ) → i < s .rows → let z = log s calls .cycle .skip in
       differences (floors z s (wroteAt s calls i)) (floors z s (standsAt s calls i)) ≤ s .errors
       → RightFlag (lineAt s calls i) (floors z s (wroteAt s calls i)) (floors z s (standsAt s calls i)) (flagAt s calls i)
-  pub dead : EndedStill s calls → (i : ℕ) → i < s .rows → lineAt s calls i ≢ 0 → flagAt s calls i ≡ 1
+  pub unsound : EndedStill s calls → (i : ℕ) → i < s .rows → lineAt s calls i ≢ 0 → flagAt s calls i ≡ 1
 
 -- Every shape taken, every list of calls.
 abbrev pub DetectionClaim : Type 0
@@ -114,11 +114,11 @@ SetsNoLine calls = (before rest : List Call) (row byte : ℕ) → calls ≢ befo
 abbrev pub SoundLinesClaim : Type 0
 SoundLinesClaim = (s : Shape) (calls : List Call) → SetsNoLine calls → (i : ℕ) → lineAt s calls i ≡ 0
 
--- Demand 3's own sentence, of a cycle that skips no digit, with document 01's mark: it ends exactly at its accepted step 1 + (q − 1) × W, and where it
+-- Demand 3's own sentence, of a cycle that skips no digit, with document 01's mark: it ends exactly at its accepted step 2 + (q − 1) × W, and where it
 -- has ended with the mark off, each row whose two forms differ in at most τ cells has flag 0 if they are equal and its line is sound, and 1 if not.
 pub record DetectsAll (s : Shape) (calls : List Call) : Type 0 where
-  pub open-below : log s calls .cycle .course ≡ open-cycle → run s calls .cycle .count < suc ((levels s - 1) * matrixOnes s)
-  pub ended-at : log s calls .cycle .course ≡ ended → run s calls .cycle .count ≡ suc ((levels s - 1) * matrixOnes s)
+  pub open-below : log s calls .cycle .course ≡ open-cycle → run s calls .cycle .count < suc (suc ((levels s - 1) * matrixOnes s))
+  pub ended-at : log s calls .cycle .course ≡ ended → run s calls .cycle .count ≡ suc (suc ((levels s - 1) * matrixOnes s))
   pub verdict :
       EndedUnmarked s calls → (i : ℕ) → i < s .rows → differences (wroteAt s calls i) (standsAt s calls i) ≤ s .errors
       → RightFlag (lineAt s calls i) (wroteAt s calls i) (standsAt s calls i) (flagAt s calls i)
@@ -126,8 +126,8 @@ pub record DetectsAll (s : Shape) (calls : List Call) : Type 0 where
 abbrev pub DemandClaim : Type 0
 DemandClaim = (s : Shape) → Taken s → (calls : List Call) → log s calls .cycle .skip ≡ 0 → DetectsAll s calls
 
--- Card 2's sentence and Card 4's, under demand 3's premises: a row whose two forms differ in at most τ cells is flagged exactly when its line is dead or
--- some cell differs in floor(level / ρ^z).
+-- Card 2's sentence and those of Cards 4 and 7, under demand 3's premises: a row whose two forms differ in at most τ cells is flagged exactly when its line
+-- isn't sound or some cell differs in floor(level / ρ^z).
 abbrev pub CoarseClaim : Type 0
 CoarseClaim =
     (s : Shape) → Taken s → (calls : List Call) → EndedUnmarked s calls → (i : ℕ) → i < s .rows → let z = log s calls .cycle .skip in
@@ -147,7 +147,7 @@ abbrev pub Buffers : Shape → List (List ℕ) → Type 0
 Buffers s [] = Unit {0}
 Buffers s (buffer ∷ buffers) = (length buffer ≡ s .rows) × Buffers s buffers
 
--- A cycle is complete exactly at its accepted step 1 + (q / ρ^z − 1) × W: a start with z and c accepted steps leave the record of c, open below that
+-- A cycle is complete exactly at its accepted step 2 + (q / ρ^z − 1) × W: a start with z and c accepted steps leave the record of c, open below that
 -- number and complete at it, whatever stood in lines, counters, flags, record and buffers before, and for every number of rows.
 abbrev pub CourseClaim : Type 0
 CourseClaim =
@@ -173,11 +173,11 @@ QuestionNineClaim =
 -- An opening leaves every counter byte as it found it, also one of ρ or more, which no list makes.
 abbrev pub OpeningClaim : Type 0
 OpeningClaim =
-    (s : Shape) (st : State) (matches : List ℕ) → stepCall s st matches .said .taken ≡ true → st .cycle .count ≡ 0
+    (s : Shape) (st : State) (matches : List ℕ) → stepCall s st matches .said .taken ≡ true → st .cycle .count < 2
     → stepCall s st matches .state .memory .counters ≡ st .memory .counters
 
--- On an array that stays still, with all cells below q, a start with z and a whole cycle leave flags that say exactly which rows have a dead line or
--- a digit sum of some s from z on that isn't 0 mod ρ, whatever counters and flags were before; also beyond τ changed cells. (`isBalancedFrom` is
+-- On an array that stays still, with all cells below q, a start with z and a whole cycle leave flags that say exactly which rows have a line that
+-- isn't sound or a digit sum of some s from z on that isn't 0 mod ρ, whatever counters and flags were before; also beyond τ changed cells. (`isBalancedFrom` is
 -- `BalancedFrom` as a test: `BalancedClaim` of schedule.)
 abbrev pub StillClaim : Type 0
 StillClaim =
@@ -187,7 +187,8 @@ StillClaim =
     → runFrom s st (start z ∷ stepsWith buffers) .memory .flags
     ≡ tabulate (s .rows) (λ i. cond (eqb (getD (st .memory .lines) i 0) 0 && isBalancedFrom z s (rowAt (columns s) (st .memory .cells) i)) 0 1)
 
--- Where no digit is skipped, they say exactly which rows have a dead line or are not sound. (`isCodeword` is `Codeword` as a test: `CodewordClaim` of parity.)
+-- Where no digit is skipped, they say exactly which rows have a line that isn't sound or are not sound. (`isCodeword` is `Codeword` as a test:
+-- `CodewordClaim` of parity.)
 abbrev pub StillSoundClaim : Type 0
 StillSoundClaim =
     (s : Shape) → Taken s → (st : State) → Sized s (st .memory) → ((i : ℕ) → i < cellCount s → getD (st .memory .cells) i 0 < levels s)

@@ -94,7 +94,7 @@ logLine row byte l =
 abbrev pub logStart : ℕ → Log → Log
 logStart z l = withCycle open-cycle z 0 (withMarks false false l)
 
--- a step: 1 is added to the count; at 1 + (q / ρ^z − 1) × W the cycle is ended
+-- a step: 1 is added to the count; at 2 + (q / ρ^z − 1) × W the cycle is ended
 abbrev pub logStep : Shape → Log → Log
 logStep s l =
     let z = l .cycle .skip in

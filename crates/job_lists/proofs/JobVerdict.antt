@@ -91,7 +91,7 @@ module _ (s : Shape) where
       let opened : Open 0 (logCall s l (start 0)) =
       subst (λ n. Open 0 (ifTaken n (logTaken s l (start 0)) l)) (sym none)
       (record { course = refl; skip = refl; count = refl; mark = refl; lines = h }) in
-      ends (lookups 0 s) 0 (logCall s l (start 0)) (omega arith) opened
+      ends (suc (lookups 0 s)) 0 (logCall s l (start 0)) (omega arith) opened
 
   sound-blank : Sound (blank s)
   unfolding blank

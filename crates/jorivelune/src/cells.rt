@@ -62,7 +62,7 @@ pub extern "C" fn jorivelune_drift(
     number_of(drift(shape, cells, row, column, level))
 }
 
-// Line: one row's match line becomes sound, 0, or dead, 1, and nothing else changes.
+// Line: one row's match line becomes sound, 0, dead, 1, or shorted, 2, and nothing else changes.
 #[no_mangle]
 pub extern "C" fn jorivelune_line(shape: Shape, lines: &mut [u8], row: usize, byte: u8) -> u8
     ensures { λ r. ⌜ ((mem : Memory) → lineCall shape (wasLines lines mem) row byte
@@ -97,13 +97,14 @@ pub extern "C" fn jorivelune_ask(
     tell(ask(shape, cells, row, levels, finished), changed)
 }
 
-// Task lookup: one match byte per row; the number of matches goes to `count`, 0 where the call is refused.
+// Task lookup, by inputs of 16 bits, since they run to q: one match byte per row; the number of matches goes to `count`, 0 where
+// the call is refused.
 #[no_mangle]
 pub extern "C" fn jorivelune_lookup(
     shape: Shape,
     cells: &[u8],
     lines: &[u8],
-    inputs: &[u8],
+    inputs: &[u16],
     matches: &mut [u8],
     count: &mut usize,
 ) -> u8
@@ -113,13 +114,14 @@ pub extern "C" fn jorivelune_lookup(
     tell(lookup(shape, cells, lines, inputs, matches), count)
 }
 
-// First match: the first matching row goes to `found`, m where there is none, 0 where the call is refused.
+// First match, by inputs as in a task lookup: the first matching row goes to `found`, m where there is none, 0 where the call is
+// refused.
 #[no_mangle]
 pub extern "C" fn jorivelune_first_match(
     shape: Shape,
     cells: &[u8],
     lines: &[u8],
-    inputs: &[u8],
+    inputs: &[u16],
     found: &mut usize,
 ) -> u8
     ensures { λ r. ⌜ ((mem : Memory) → foundSays (shape .rows) (firstCall shape (wasArray cells lines mem) (was inputs))

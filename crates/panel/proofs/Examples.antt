@@ -2,9 +2,9 @@
 use mathlib.Core.Path.{refl}
 use Rattle.parity.specs.Shape.{digit, levels, largest, limit, redundancy, checks, columns, cellCount}
 use Rattle.parity.specs.Matrix.{ruleColumns, checkColumns, matrix, support}
-use Rattle.parity.specs.Match.{matchByte, lineMatch}
+use Rattle.parity.specs.Match.{matchByte, lineGives, lineMatch}
 use Rattle.schedule.specs.Schedule.{factors, ofDigit, sweep, ofCheck, tests, schedule, unitVector, testVector}
-use Rattle.schedule.specs.Tally.{counted, flagged, reset}
+use Rattle.schedule.specs.Tally.{flagged, reset}
 use Rattle.shape.specs.Answers.{calling}
 use Rattle.array_memory.specs.Blocks.{blocksOf, blockAt, countFlagged, blockTotals}
 use Rattle.array_memory.specs.Geometry.{rowAt, rowMatch, matchBytes}
@@ -21,6 +21,6 @@ pub examplesClaim : ExamplesClaim
 unfolding
     examples run calling zeroRows cleared fresh driftCall lineCall lineSet startCall stepCall started stepped steppedMemory drifted
     entryMatches countedRows flaggedRows totalledBlocks resetRows lookedUp entryAt nextAt isPlaceOf cycleAt isNext cellCount blocksOf blockAt
-    countFlagged blockTotals rowAt rowMatch matchBytes counted flagged reset factors ofDigit sweep ofCheck tests schedule unitVector testVector matchByte
-    lineMatch ruleColumns checkColumns matrix support digit levels largest limit redundancy checks columns firstNonzero panelReading panelCall
+    countFlagged blockTotals rowAt rowMatch matchBytes flagged reset factors ofDigit sweep ofCheck tests schedule unitVector testVector matchByte
+    lineGives lineMatch ruleColumns checkColumns matrix support digit levels largest limit redundancy checks columns firstNonzero panelReading panelCall
 examplesClaim = refl

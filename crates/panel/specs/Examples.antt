@@ -1,4 +1,4 @@
--- The claims are not empty: four lists at a shape of three blocks, the last of them short (ρ 2, b 1, τ 1, k 1, m 130: n is 2 and a cycle has 3
+-- The claims are not empty: four lists at a shape of three blocks, the last of them short (ρ 2, b 1, τ 1, k 1, m 130: n is 2 and a cycle has 4
 -- steps), with the totals that they leave and what the panel is told.
 use mathlib.Core.Path.{_≡_}
 use mathlib.Core.List.{List, [], _∷_, map}
@@ -14,7 +14,7 @@ threeBlocks = record { radix = 2; digits = 1; errors = 1; width = 1; rows = 130 
 
 -- a whole cycle
 abbrev pub wholeCycle : List Call
-wholeCycle = start 0 ∷ replicate 3 (step (replicate 130 7))
+wholeCycle = start 0 ∷ replicate 4 (step (replicate 130 7))
 
 -- no drift; one in the last block; one in each of two blocks; and a dead line beside one of them
 unfoldable pub examples : List (List Call)

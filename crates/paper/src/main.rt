@@ -20,8 +20,8 @@ fn example(radix: usize, digits: usize, errors: usize, width: usize, rows: usize
     }
 }
 
-// The lookups of a whole cycle, made on one row and counted by the record; its opening, which the paper does not have, is
-// left out.
+// The lookups of a whole cycle, made on one row and counted by the record; its two openings, which the paper does not have,
+// are left out.
 fn lookups_made(shape: Shape, columns: usize) -> usize {
     let cells = [0u8; 64];
     let lines = [0u8; 1];
@@ -45,10 +45,10 @@ fn lookups_made(shape: Shape, columns: usize) -> usize {
     );
     let cycle = ended.cycle;
     let count = cycle.count;
-    if count == 0 {
+    if count < 2 {
         return 0;
     }
-    count - 1
+    count - 2
 }
 
 fn put(word: &[u8], value: usize) {

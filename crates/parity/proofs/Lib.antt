@@ -4,6 +4,7 @@ pub mod Filled
 pub mod Followed
 pub mod Alongside
 pub mod Greatest
+pub mod Comparator
 pub mod Remainders
 pub mod Sums
 pub mod Taken

@@ -101,12 +101,12 @@ RedundancyClaim = (s : Shape) → Taken s → LeastChecks s
 abbrev pub longestShape : Shape
 longestShape = record { radix = 2; digits = 8; errors = 2; width = 247; rows = 1 }
 
--- the lookups of the longest cycle, 255 for each of 1,024 ones, and its steps with the opening
+-- the lookups of the longest cycle, 255 for each of 1,024 ones, and its steps with the two openings
 abbrev pub mostLookups : ℕ
 mostLookups = 261120
 
 abbrev pub mostSteps : ℕ
-mostSteps = suc mostLookups
+mostSteps = suc (suc mostLookups)
 
 -- The longest cycle: on no shape taken has a cycle more lookups, and the largest has as many where no digit is skipped.
 pub record LongestClaim : Type 0 where

@@ -61,6 +61,6 @@ onesOf r cs = sumTo r (λ ℓ. length (placesFrom 0 ℓ cs))
 unfoldable pub lookups : ℕ → Shape → ℕ
 lookups z s = (levels s / s .radix ^ z - 1) * matrixOnes s
 
--- the steps of such a cycle: its opening (document 02, Card 4), and then the lookups
+-- the steps of such a cycle: its two openings (document 02, Cards 4 and 7), and then the lookups
 abbrev pub cycleSteps : ℕ → Shape → ℕ
-cycleSteps z s = suc (lookups z s)
+cycleSteps z s = suc (suc (lookups z s))

@@ -78,13 +78,13 @@ placeQuestion place count = question 7 (ltb place count)
 abbrev pub levelsQuestion : ℕ → List ℕ → Question
 levelsQuestion q given = question 8 (every (λ v. ltb v q) given)
 
--- 8: is every input below q?
+-- 8: is every input at most q?
 abbrev pub inputsQuestion : ℕ → List ℕ → Question
-inputsQuestion q inputs = question 8 (every (λ v. ltb v q) inputs)
+inputsQuestion q inputs = question 8 (every (λ v. leb v q) inputs)
 
--- 16: is a line byte to set 0, sound, or 1, dead?
+-- 16: is a line byte to set 0, sound, 1, dead, or 2, shorted?
 abbrev pub lineQuestion : ℕ → Question
-lineQuestion byte = question 16 (leb byte 1)
+lineQuestion byte = question 16 (leb byte 2)
 
 -- 17: is a finished row sound?
 abbrev pub soundQuestion : Shape → List ℕ → Question

@@ -5,18 +5,17 @@ use mathlib.Core.List.{List, _∷_, _++_, append-nil, append-assoc}
 use Prim.Native.Nat.{ℕ, suc, _+_, _-_, _≤_, _<_}
 use native.Mathlib.Numerals.{add-one}
 use native.Mathlib.Omega.{arith}
-use lib.ListN.{length, getD, take, drop, set, replicate, length-append, drop-of-length-le}
-use lib.Seq.{take-suc-set, take-all, take-at, drop-cons, lt-length-set, length-take-le}
-use Rattle.parity.specs.Shape.{levels, columns}
+use lib.ListN.{length, getD, take, drop, set, drop-of-length-le}
+use lib.Seq.{take-suc-set, take-all, drop-cons, lt-length-set}
+use Rattle.parity.specs.Shape.{levels}
 use Rattle.parity.specs.Claims.{Below}
 use Rattle.parity.specs.Questions.{Taken}
 use Rattle.parity.specs.declared.Shape.{Shape}
-use Rattle.parity.proofs.Redundancy.{redundancyClaim}
-use Rattle.parity.proofs.Sizes.{columns-high}
 use Rattle.parity.proofs.Taken.{limits}
 use Rattle.shape.specs.Bounds.{Within}
 use Rattle.shape.specs.Shapes.{sizesOf}
 use Rattle.shape.specs.declared.sizes.Sizes.{Sizes}
+use Rattle.array_lookup.proofs.Front.{blank, Holds, front-sized, front-held}
 use Rattle.router_ranges.specs.Ranges.{features, paired}
 use Rattle.router_ranges.proofs.Pairs.{paired-length}
 use Rattle.router.specs.Pairs.{PairsLent}
@@ -50,16 +49,6 @@ levels-within s t z e =
     let same : z .levels ≡ levels s = ap (λ z. z .levels) e in
     record { low = omega (arith, two-levels s t); high = omega (arith, limits s t .levelsHigh) }
 
--- the array before anything is written
-abbrev pub blank : List ℕ
-blank = replicate 254 0
-
--- the front part of an array: it is within the array, and what it holds
-pub record Holds (width : ℕ) (array pairs : List ℕ) : Type 0 where
-  pub within : width ≤ length array
-  pub sized : length (take width array) ≡ width
-  pub part : take width array ≡ pairs
-
 -- two bytes for each feature, the second of them levels
 pub record Pairable (s : Shape) (xs ys : List ℕ) : Type 0 where
   pub taken : Taken s
@@ -69,33 +58,20 @@ pub record Pairable (s : Shape) (xs ys : List ℕ) : Type 0 where
   pub below : Below (levels s) (features s) ys
 
 module _ (s : Shape) (z : Sizes) (e : z ≡ sizesOf s) (xs ys : List ℕ) (p : Pairable s xs ys) where
-  -- the part that is lent for their pairs: that there is one, its length, and what the pairing asks for
-  pub front-fits : s .width ≤ 254
-  unfolding columns
-  front-fits = omega (arith, columns-high s (p .taken), redundancyClaim s (p .taken) .low)
-
-  pub front-sized : length (take (s .width) blank) ≡ s .width
-  front-sized = length-take-le (s .width) blank front-fits
-
   counted : z .levels ≡ levels s
   counted = ap (λ z. z .levels) e
 
+  -- what the pairing asks of the part of the array that is lent for them
   pub pairs-ask : PairsLent (z .levels - 1) xs ys (length (take (s .width) blank))
   pairs-ask =
       record {
         same = p .seconds ∙ sym (p .firsts);
-        twice = omega (arith, front-sized);
+        twice = omega (arith, front-sized s (p .taken));
         below = λ i h. omega (arith, counted, p .below i (omega arith));
       }
 
   -- when it is back
   pub pairs-held : (made : List ℕ) → made ≡ paired (z .levels - 1) xs ys → Holds (s .width) (made ++ drop (s .width) blank) (paired (levels s - 1) xs ys)
   pairs-held made are =
-      let rest = drop (s .width) blank in
       let sized : length made ≡ s .width = omega (arith, ap length are, paired-length (z .levels - 1) xs ys (p .seconds ∙ sym (p .firsts))) in
-      let within : s .width ≤ length (made ++ rest) = omega (arith, length-append made rest) in
-      record {
-        within = within;
-        sized = length-take-le (s .width) (made ++ rest) within;
-        part = take-at made rest (s .width) sized ∙ are ∙ ap (λ q. paired (q - 1) xs ys) counted;
-      }
+      front-held s (p .taken) made (paired (levels s - 1) xs ys) sized (are ∙ ap (λ q. paired (q - 1) xs ys) counted)

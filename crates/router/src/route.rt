@@ -1,7 +1,7 @@
 // Route: the belt for a bottle.
 use super::answer::Routed;
 use super::pairs::pair;
-use array_lookup::first::first_lent;
+use array_lookup::first::first_below;
 use parity::Shape;
 use router_questions::check_route;
 use shape::answer::First;
@@ -17,7 +17,8 @@ ghost use Rattle.router_questions.specs.Questions.{routeQuestions};
 ghost use Rattle.router.specs.Routes.{routeCall};
 ghost use Rattle.router.specs.Answers.{routedSays};
 
-// A route whose questions have been passed: the bottle's inputs are made in an array of the call's own, and first match is asked.
+// A route whose questions have been passed: the bottle's inputs, all below q, are made in an array of the call's own, and first
+// match is asked.
 pub fn route_lent(
     shape: Shape,
     sizes: Sizes,
@@ -33,7 +34,7 @@ pub fn route_lent(
     let top = (sizes.levels - 1) as u8;
     let mut inputs = [0u8; 254];
     pair(top, values, values, &mut inputs[..width]);
-    match first_lent(shape, sizes, cells, lines, &inputs[..width]) {
+    match first_below(shape, sizes, cells, lines, &inputs[..width]) {
         First::Row(row) => Routed::To(row, belts[row]),
         First::Nothing => Routed::Nothing,
         First::Refused(number) => Routed::Refused(number),

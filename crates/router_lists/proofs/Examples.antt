@@ -3,7 +3,7 @@ use mathlib.Core.Path.{refl}
 use Rattle.parity.specs.Shape.{digit, levels, largest, limit, redundancy, checks, columns, cellCount}
 use Rattle.parity.specs.Matrix.{weight, ofWeight, columnOrder, eligible, ruleColumns, checkColumns, matrix, support}
 use Rattle.parity.specs.Codeword.{number, checkDigit, checkCell, encode}
-use Rattle.parity.specs.Match.{matchByte, lineMatch, taskVector}
+use Rattle.parity.specs.Match.{matchByte, lineGives, lineMatch, taskVector}
 use Rattle.shape.specs.Answers.{calling}
 use Rattle.array_memory.specs.Blocks.{blocksOf}
 use Rattle.array_memory.specs.Geometry.{rowAt, withRow, rowMatch}
@@ -29,7 +29,7 @@ bookExampleClaim = (refl, refl)
 pub routesExampleClaim : RoutesExampleClaim
 unfolding
     book bottles runRouter routeCall ruleCall calling zeroRows cleared fresh programCall rowWritten withRow rowAt rowMatch firstCall ruleLevels bottleInputs
-    features cellCount matchByte lineMatch taskVector
+    features cellCount matchByte lineGives lineMatch taskVector
     number checkDigit checkCell encode weight ofWeight columnOrder eligible ruleColumns checkColumns matrix support
     digit levels largest limit redundancy checks columns
 routesExampleClaim = refl
@@ -37,7 +37,7 @@ routesExampleClaim = refl
 pub historiesExampleClaim : HistoriesExampleClaim
 unfolding
     book histories runRouter routeCall ruleCall calling zeroRows cleared fresh clearCall programCall driftCall lineCall rowWritten drifted lineSet withRow rowAt
-    rowMatch firstCall ruleLevels bottleInputs features cellCount blocksOf matchByte lineMatch taskVector
+    rowMatch firstCall ruleLevels bottleInputs features cellCount blocksOf matchByte lineGives lineMatch taskVector
     number checkDigit checkCell encode weight ofWeight columnOrder eligible ruleColumns checkColumns matrix support
     digit levels largest limit redundancy checks columns
 historiesExampleClaim = (refl, refl)

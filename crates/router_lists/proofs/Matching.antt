@@ -10,7 +10,7 @@ use lib.ListN.{length, getD, replicate, length-append, length-replicate, replica
 use lib.Seq.{take-at}
 use Rattle.parity.specs.Shape.{levels, checks, columns}
 use Rattle.parity.specs.Codeword.{encode}
-use Rattle.parity.specs.Match.{allAnswer, matchByte, lineMatch, taskVector}
+use Rattle.parity.specs.Match.{allAnswer, matchByte, lineGives, lineMatch, taskVector}
 use Rattle.parity.specs.Questions.{Taken}
 use Rattle.parity.specs.declared.Shape.{Shape}
 use Rattle.parity.proofs.ListLaws.{length-tabulate}
@@ -39,26 +39,28 @@ module _ (s : Shape) (t : Taken s) (even : features s + features s ≡ s .width)
   -- of a row of n cells that begins with k known ones
   answers-front :
       (front rest : List ℕ) → length front ≡ s .width → length rest ≡ checks s
-      → eqb (matchByte (taskVector s inputs) (front ++ rest)) 1 ≡ allAnswer inputs front
+      → eqb (matchByte (levels s) (taskVector s inputs) (front ++ rest)) 1 ≡ allAnswer (levels s) inputs front
   unfolding taskVector matchByte
   answers-front front rest ef er =
       ap (λ byte. eqb byte 1)
-      (task-match (s .width) (checks s) inputs (front ++ rest) (inputs-sized (levels s) (features s) values bottle ∙ even)
-      (length-append front rest ∙ ap₂ _+_ ef er)
-      ∙ ap (matchByte inputs) (take-at front rest (s .width) ef))
-      ∙ byte-one (allAnswer inputs front)
+      (task-match (levels s) (omega (arith, two-levels s t)) (s .width) (checks s) inputs (front ++ rest)
+      (inputs-sized (levels s) (features s) values bottle ∙ even) (length-append front rest ∙ ap₂ _+_ ef er)
+      ∙ ap (matchByte (levels s) inputs) (take-at front rest (s .width) ef))
+      ∙ byte-one (allAnswer (levels s) inputs front)
 
   -- what a row matches that was so written
-  row-holds : (w : Written) (cells : List ℕ) (belt : ℕ) → w ≢ other → Row s w cells belt → eqb (matchByte (taskVector s inputs) cells) 1 ≡ ruleHolds values w
+  row-holds :
+      (w : Written) (cells : List ℕ) (belt : ℕ) → w ≢ other → Row s w cells belt
+      → eqb (matchByte (levels s) (taskVector s inputs) cells) 1 ≡ ruleHolds values w
   unfolding encode columns
   row-holds cleared cells belt known row =
       let two : s .width ≡ 2 * features s = omega (arith, even) in
-      ap (λ cells. eqb (matchByte (taskVector s inputs) cells) 1) (row ∙ sym (replicate-append-replicate (s .width) (checks s) 0))
+      ap (λ cells. eqb (matchByte (levels s) (taskVector s inputs) cells) 1) (row ∙ sym (replicate-append-replicate (s .width) (checks s) 0))
       ∙ answers-front (replicate (s .width) 0) (replicate (checks s) 0) (length-replicate (s .width) 0) (length-replicate (checks s) 0)
-      ∙ ap (λ n. allAnswer inputs (replicate n 0)) two
+      ∙ ap (λ n. allAnswer (levels s) inputs (replicate n 0)) two
       ∙ rangesClaim .cleared (levels s) (features s) values (two-levels s t) (omega (arith, even, limits s t .widthLow)) bottle
   row-holds (ruled r) cells belt known row =
-      ap (λ cells. eqb (matchByte (taskVector s inputs) cells) 1) (row .cells)
+      ap (λ cells. eqb (matchByte (levels s) (taskVector s inputs) cells) 1) (row .cells)
       ∙ answers-front (ruleLevels (levels s) (r .ranges)) _ (levels-sized (levels s) (features s) (r .ranges) (row .proper) ∙ even)
       (length-tabulate (checks s) _)
       ∙ rangesClaim .held (levels s) (features s) (r .ranges) values (row .proper) bottle
@@ -68,9 +70,10 @@ module _ (s : Shape) (t : Taken s) (even : features s + features s ≡ s .width)
   pub trusted-match :
       (st : Router) (l : RouterLog) → Fits s st l → (i : ℕ) → i < s .rows → getD (l .rules) i other ≢ other
       → getD (l .array .rows .standing) i [] ≡ getD (l .array .rows .written) i [] → getD (l .array .rows .lines) i 0 ≡ 0
-      → eqb (rowMatch (columns s) (taskVector s inputs) (st .array .memory .cells) (st .array .memory .lines) i) 1 ≡ ruleHolds values (getD (l .rules) i other)
-  unfolding rowMatch lineMatch
+      → eqb (rowMatch (levels s) (columns s) (taskVector s inputs) (st .array .memory .cells) (st .array .memory .lines) i) 1
+      ≡ ruleHolds values (getD (l .rules) i other)
+  unfolding rowMatch lineMatch lineGives
   trusted-match st l p i h known same sound =
-      ap₂ (λ line cells. eqb (lineMatch line (taskVector s inputs) cells) 1) (ap (λ lines. getD lines i 0) (p .array .lines) ∙ sound)
+      ap₂ (λ line cells. eqb (lineMatch (levels s) line (taskVector s inputs) cells) 1) (ap (λ lines. getD lines i 0) (p .array .lines) ∙ sound)
       (row-stands s _ _ _ (p .array .rows) i h ∙ same)
       ∙ row-holds (getD (l .rules) i other) _ (getD (l .belts) i 0) known (p .rows .row i h)

@@ -69,7 +69,7 @@ module _ (s : Shape) (t : Taken s) (even : s .width % 2 ≡ 0) (first : List ℕ
   module _ (values : List ℕ) (bottle : Bottle (levels s) (features s) values) where
     abbrev matches : ℕ → Bool
     matches i =
-        eqb (rowMatch (columns s) (taskVector s (bottleInputs (levels s) values)) (st .array .memory .cells) (st .array .memory .lines) i) 1
+        eqb (rowMatch (levels s) (columns s) (taskVector s (bottleInputs (levels s) values)) (st .array .memory .cells) (st .array .memory .lines) i) 1
 
     abbrev holding : ℕ → Bool
     holding i = ruleHolds values (writtenAt s first calls i)

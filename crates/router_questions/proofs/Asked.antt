@@ -5,9 +5,9 @@ use mathlib.Core.List.{List, [], _∷_, _++_}
 use Prim.Native.Nat.{ℕ, zero, suc, _+_, _%_, _^_, _≤_, _<_}
 use native.Mathlib.Nat.{one-le-pow, pow-suc, mul-le-mul-right}
 use native.Mathlib.Omega.{arith}
-use lib.Dec.{eqb, ltb, lit<}
-use lib.ListN.{length}
-use borrow.Author.Tests.{eqb-true, ltb-true, eq-eqb, lt-ltb}
+use lib.Dec.{eqb, leb, ltb, lit<}
+use lib.ListN.{length, getD}
+use borrow.Author.Tests.{eqb-true, ltb-true, eq-eqb, le-leb, lt-ltb}
 use Rattle.parity.specs.Lists.{every}
 use Rattle.parity.specs.Shape.{levels, cellCount}
 use Rattle.parity.specs.Claims.{Below}
@@ -134,7 +134,7 @@ module _ (s : Shape) (cells belts row : ℕ) where
   rule-programs ranges p =
       let at = p .at in
       let sized = levels-sized (levels s) (features s) ranges (p .proper) in
-      let below = levels-below (levels s) (features s) ranges (p .proper) (omega (arith, two-levels s (at .taken))) in
+      let below = levels-below (levels s) (features s) ranges (p .proper) in
       call-rest s [] (lengthsQuestion (cells ∷ []) (cellsWanted s)) (programArguments s row (ruleLevels (levels s) ranges)) (at .taken)
       (equal-alongside (cells ∷ []) (cellsWanted s) (λ i. at .cells i ∷ []))
       ∙ program-fits s row (ruleLevels (levels s) ranges) (record { sized = sized ∙ at .even; place = at .place; below = rw (at .even) at below })
@@ -185,10 +185,10 @@ module _ (s : Shape) (cells lines belts : ℕ) (values : List ℕ) where
   route-asks p =
       let inputs = bottleInputs (levels s) values in
       let sized = inputs-sized (levels s) (features s) values (p .bottle) ∙ p .even in
-      let below = inputs-below (levels s) (features s) values (p .bottle) (omega (arith, two-levels s (p .taken))) in
+      let below = inputs-below (levels s) (features s) values (p .bottle) in
       call-rest s [] (lengthsQuestion (cells ∷ lines ∷ []) (arrayWanted s)) (firstArguments s inputs) (p .taken)
       (equal-alongside (cells ∷ lines ∷ []) (arrayWanted s) (λ i. p .cells i ∷ p .lines i ∷ []))
       ∙ simp (
         equal-alongside (length inputs ∷ []) (s .width ∷ []) (λ i. sized i ∷ []),
-        every-passes (λ v. ltb v (levels s)) inputs 0 (λ j h. lt-ltb _ _ (below j (omega (arith, sized, p .even)))),
+        every-passes (λ v. leb v (levels s)) inputs 0 (λ j h. le-leb (getD inputs j 0) (levels s) (omega (arith, below j (omega (arith, sized, p .even))))),
       )

@@ -6,12 +6,13 @@ use mathlib.Core.List.{List, [], _∷_}
 use Prim.Native.Nat.{ℕ, zero, suc, _+_, _-_, _*_, _≤_, _<_}
 use native.Mathlib.Omega.{arith}
 use lib.Dec.{leb}
-use lib.ListN.{length, getD, replicate}
-use borrow.Author.Tests.{leb-true, leb-false, le-leb, lt-leb}
-use Rattle.parity.specs.Lists.{everyTo}
+use lib.ListN.{length, getD, replicate, length-replicate}
+use borrow.Author.Tests.{leb-true, leb-false, le-leb, lt-leb, lt-ltb}
+use Rattle.parity.specs.Lists.{alongside, everyTo}
 use Rattle.parity.specs.Match.{allAnswer}
 use Rattle.parity.specs.Claims.{Below}
-use Rattle.parity.proofs.ListLaws.{Each}
+use Rattle.parity.proofs.Comparator.{reaches, all-answer}
+use Rattle.parity.proofs.ListLaws.{Each, every-passes}
 use Rattle.router_ranges.specs.Ranges.{Ranges, rangesOf, inRange, holds, paired, ruleLevels, bottleInputs, rangesIn}
 use Rattle.router_ranges.specs.Claims.{Proper, Bottle, RangesClaim}
 use Rattle.router_ranges.proofs.Pairs.{paired-length, paired-each, paired-even, paired-odd, tabulate-places}
@@ -45,17 +46,17 @@ regroup true false rest = refl
 regroup false true rest = refl
 regroup false false rest = refl
 
-answers-held :
+reached-held :
     (top : ℕ) (lows highs xs : List ℕ) → length lows ≡ length xs → length highs ≡ length xs → Each (λ v. v ≤ top) lows → Each (λ v. v ≤ top) xs
-    → allAnswer (paired top xs xs) (paired top highs lows) ≡ everyTo (length xs) (λ i. inRange (getD lows i 0) (getD highs i 0) (getD xs i 0))
-answers-held top [] [] [] el eh hl hx = refl
-answers-held top [] (high ∷ highs) xs el eh hl hx = absurd (omega arith)
-answers-held top (low ∷ lows) [] xs el eh hl hx = absurd (omega arith)
-answers-held top [] [] (x ∷ xs) el eh hl hx = absurd (omega arith)
-answers-held top (low ∷ lows) (high ∷ highs) [] el eh hl hx = absurd (omega arith)
-answers-held top (low ∷ lows) (high ∷ highs) (x ∷ xs) el eh hl hx =
+    → alongside leb (paired top xs xs) (paired top highs lows) ≡ everyTo (length xs) (λ i. inRange (getD lows i 0) (getD highs i 0) (getD xs i 0))
+reached-held top [] [] [] el eh hl hx = refl
+reached-held top [] (high ∷ highs) xs el eh hl hx = absurd (omega arith)
+reached-held top (low ∷ lows) [] xs el eh hl hx = absurd (omega arith)
+reached-held top [] [] (x ∷ xs) el eh hl hx = absurd (omega arith)
+reached-held top (low ∷ lows) (high ∷ highs) [] el eh hl hx = absurd (omega arith)
+reached-held top (low ∷ lows) (high ∷ highs) (x ∷ xs) el eh hl hx =
     ap₂ (λ a rest. leb x high && (a && rest)) (leb-left top x low (hx 0 (omega arith)) (hl 0 (omega arith)))
-    (answers-held top lows highs xs (omega arith) (omega arith) (λ j l. hl (suc j) (omega arith)) (λ j l. hx (suc j) (omega arith)))
+    (reached-held top lows highs xs (omega arith) (omega arith) (λ j l. hl (suc j) (omega arith)) (λ j l. hx (suc j) (omega arith)))
     ∙ regroup (leb x high) (leb low x) _
     ∙ sym (everyTo-first (length xs) (λ i. inRange (getD (low ∷ lows) i 0) (getD (high ∷ highs) i 0) (getD (x ∷ xs) i 0)))
 
@@ -66,16 +67,16 @@ at-most q f xs e below j h = omega (arith, below j (omega arith))
 -- ---- a row of zeros
 
 -- of the first two cells one says no: x is not 0, or what it leaves of the top level isn't
-zeros-refuse : (top x : ℕ) (xs : List ℕ) → 0 < top → (f : ℕ) → allAnswer (paired top (x ∷ xs) (x ∷ xs)) (replicate (suc (suc f)) 0) ≡ false
+zeros-refuse : (top x : ℕ) (xs : List ℕ) → 0 < top → (f : ℕ) → alongside leb (paired top (x ∷ xs) (x ∷ xs)) (replicate (suc (suc f)) 0) ≡ false
 zeros-refuse top zero xs h f = rw (lt-leb (top - 0) 0 (omega arith))
 zeros-refuse top (suc x) xs h f = rw (lt-leb (suc x) 0 (omega arith))
 
 no-zeros :
-    (q f : ℕ) (values : List ℕ) → 2 ≤ q → 0 < f → length values ≡ f → allAnswer (paired (q - 1) values values) (replicate (2 * f) 0) ≡ false
+    (q f : ℕ) (values : List ℕ) → 2 ≤ q → 0 < f → length values ≡ f → alongside leb (paired (q - 1) values values) (replicate (2 * f) 0) ≡ false
 no-zeros q f [] h pos e = absurd (omega arith)
 no-zeros q f (x ∷ xs) h pos e =
     let two : 2 * f ≡ suc (suc (2 * f - 2)) = omega arith in
-    ap (λ n. allAnswer (paired (q - 1) (x ∷ xs) (x ∷ xs)) (replicate n 0)) two ∙ zeros-refuse (q - 1) x xs (omega arith) (2 * f - 2)
+    ap (λ n. alongside leb (paired (q - 1) (x ∷ xs) (x ∷ xs)) (replicate n 0)) two ∙ zeros-refuse (q - 1) x xs (omega arith) (2 * f - 2)
 
 -- ---- read back
 
@@ -91,41 +92,62 @@ read-back q f lows highs el eh below =
     ap₂ rangesOf (tabulate-places f _ lows el (read-low q f lows highs el eh below))
     (tabulate-places f _ highs eh (λ i h. paired-even (q - 1) highs lows i (el ∙ sym eh) (omega arith)))
 
-pub rangesClaim : RangesClaim
-unfolding ruleLevels bottleInputs holds
-rangesClaim =
-    record {
-      held =
-          λ q f ranges values p b.
-          answers-held (q - 1) (ranges .lows) (ranges .highs) values (p .lowCount ∙ sym (b .count)) (p .highCount ∙ sym (b .count))
-          (at-most q f (ranges .lows) (p .lowCount) (p .low)) (at-most q f values (b .count) (b .below));
-      cleared = λ q f values h pos b. no-zeros q f values h pos (b .count);
-      read = λ q f ranges p. read-back q f (ranges .lows) (ranges .highs) (p .lowCount) (p .highCount) (p .low);
-    }
-
 -- ---- a rule's levels and a bottle's inputs: two for each feature, all of them levels
 
 module _ (q f : ℕ) (xs ys : List ℕ) (ex : length xs ≡ f) (ey : length ys ≡ f) where
   pairs-sized : length (paired (q - 1) xs ys) ≡ f + f
   pairs-sized = paired-length (q - 1) xs ys (ey ∙ sym ex) ∙ ap₂ _+_ ex ex
 
-  pairs-below : 0 < q → Below q f xs → Below q (f + f) (paired (q - 1) xs ys)
-  pairs-below pos below j h = paired-each (q - 1) (λ v. v < q) xs ys (λ j l. below j (omega arith)) (λ j l. omega arith) j (omega (arith, pairs-sized))
+  pairs-below : Below q f xs → Below q (f + f) (paired (q - 1) xs ys)
+  pairs-below below j h =
+      paired-each (q - 1) (λ v. v < q) xs ys (λ j l. below j (omega arith)) (λ j l. omega (arith, below j (omega arith))) j (omega (arith, pairs-sized))
+
+  -- so to all of them, as inputs, the cells of a row answer by comparison alone
+  pairs-reach : Below q f xs → reaches q (paired (q - 1) xs ys) ≡ true
+  pairs-reach below = every-passes _ (paired (q - 1) xs ys) 0 (λ j h. lt-ltb _ _ (pairs-below below j (omega (arith, pairs-sized))))
+
+  pairs-compared :
+      Below q f xs → (row : List ℕ) → length row ≡ f + f → allAnswer q (paired (q - 1) xs ys) row ≡ alongside leb (paired (q - 1) xs ys) row
+  pairs-compared below row e =
+      all-answer q (paired (q - 1) xs ys) row (pairs-sized ∙ sym e) ∙ ap (λ t. t && alongside leb (paired (q - 1) xs ys) row) (pairs-reach below)
 
 module _ (q f : ℕ) (ranges : Ranges) (p : Proper q f ranges) where
   pub levels-sized : length (ruleLevels q ranges) ≡ f + f
   unfolding ruleLevels
   levels-sized = pairs-sized q f (ranges .highs) (ranges .lows) (p .highCount) (p .lowCount)
 
-  pub levels-below : 0 < q → Below q (f + f) (ruleLevels q ranges)
+  pub levels-below : Below q (f + f) (ruleLevels q ranges)
   unfolding ruleLevels
-  levels-below pos = pairs-below q f (ranges .highs) (ranges .lows) (p .highCount) (p .lowCount) pos (p .high)
+  levels-below = pairs-below q f (ranges .highs) (ranges .lows) (p .highCount) (p .lowCount) (p .high)
 
 module _ (q f : ℕ) (values : List ℕ) (b : Bottle q f values) where
   pub inputs-sized : length (bottleInputs q values) ≡ f + f
   unfolding bottleInputs
   inputs-sized = pairs-sized q f values values (b .count) (b .count)
 
-  pub inputs-below : 0 < q → Below q (f + f) (bottleInputs q values)
+  pub inputs-below : Below q (f + f) (bottleInputs q values)
   unfolding bottleInputs
-  inputs-below pos = pairs-below q f values values (b .count) (b .count) pos (b .below)
+  inputs-below = pairs-below q f values values (b .count) (b .count) (b .below)
+
+  pub inputs-reach : reaches q (bottleInputs q values) ≡ true
+  unfolding bottleInputs
+  inputs-reach = pairs-reach q f values values (b .count) (b .count) (b .below)
+
+-- ---- the claim
+
+pub rangesClaim : RangesClaim
+unfolding ruleLevels bottleInputs holds
+rangesClaim =
+    record {
+      held =
+          λ q f ranges values p b.
+          pairs-compared q f values values (b .count) (b .count) (b .below) (paired (q - 1) (ranges .highs) (ranges .lows))
+          (pairs-sized q f (ranges .highs) (ranges .lows) (p .highCount) (p .lowCount))
+          ∙ reached-held (q - 1) (ranges .lows) (ranges .highs) values (p .lowCount ∙ sym (b .count)) (p .highCount ∙ sym (b .count))
+          (at-most q f (ranges .lows) (p .lowCount) (p .low)) (at-most q f values (b .count) (b .below));
+      cleared =
+          λ q f values h pos b.
+          pairs-compared q f values values (b .count) (b .count) (b .below) (replicate (2 * f) 0) (length-replicate (2 * f) 0 ∙ omega arith)
+          ∙ no-zeros q f values h pos (b .count);
+      read = λ q f ranges p. read-back q f (ranges .lows) (ranges .highs) (p .lowCount) (p .highCount) (p .low);
+    }

@@ -25,6 +25,6 @@ pub record Bottle (q f : ℕ) (values : List ℕ) : Type 0 where
 pub record RangesClaim : Type 0 where
   pub held :
       (q f : ℕ) (ranges : Ranges) (values : List ℕ) → Proper q f ranges → Bottle q f values
-      → allAnswer (bottleInputs q values) (ruleLevels q ranges) ≡ holds ranges values
-  pub cleared : (q f : ℕ) (values : List ℕ) → 2 ≤ q → 0 < f → Bottle q f values → allAnswer (bottleInputs q values) (replicate (2 * f) 0) ≡ false
+      → allAnswer q (bottleInputs q values) (ruleLevels q ranges) ≡ holds ranges values
+  pub cleared : (q f : ℕ) (values : List ℕ) → 2 ≤ q → 0 < f → Bottle q f values → allAnswer q (bottleInputs q values) (replicate (2 * f) 0) ≡ false
   pub read : (q f : ℕ) (ranges : Ranges) → Proper q f ranges → rangesIn q f (ruleLevels q ranges) ≡ ranges

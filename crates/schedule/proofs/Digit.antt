@@ -10,8 +10,9 @@ use lib.Dec.{eqb}
 use lib.ListN.{length}
 use Rattle.parity.specs.Lists.{sumOver}
 use Rattle.parity.specs.Match.{lineMatch}
+use Rattle.parity.specs.Shape.{levels}
 use Rattle.parity.specs.declared.Shape.{Shape}
-use Rattle.schedule.specs.Schedule.{Entry, atLast, ending, testVector}
+use Rattle.schedule.specs.Schedule.{counts, Entry, atLast, ending, testVector}
 use Rattle.schedule.specs.Tally.{Tally, counted, flagged, reset, tallyStep, tallyRun}
 use Rattle.schedule.proofs.All.{All}
 
@@ -25,30 +26,29 @@ ended z s c f = tally (cond (eqb s z) 0 c) (cond (eqb c 0) f 1)
 -- a test of digit s that counts and no more
 pub record Plain (s : ℕ) (e : Entry) : Type 0 where
   pub digit : e .digit ≡ s
-  pub opens : e .opens ≡ false
+  pub kind : e .kind ≡ counts
   pub flags : e .flags ≡ false
   pub resets : e .resets ≡ false
 
 -- a test counts, and the last of its digit flags the rows whose counter is not 0
-counted-test : (e : Entry) → e .opens ≡ false → (ρ c m : ℕ) → counted e ρ c m ≡ (c + m) % ρ
-unfolding counted
+counted-test : (e : Entry) → e .kind ≡ counts → (ρ c m : ℕ) → counted (e .kind) ρ c m ≡ (c + m) % ρ
 counted-test e p ρ c m = rw p refl
 
 turned : (b : Bool) (f : ℕ) → cond (not b) 1 f ≡ cond b f 1
 turned true f = refl
 turned false f = refl
 
-flagged-test : (e : Entry) → e .opens ≡ false → e .flags ≡ true → (m c f : ℕ) → flagged e m c f ≡ cond (eqb c 0) f 1
+flagged-test : (e : Entry) → e .kind ≡ counts → e .flags ≡ true → (m c f : ℕ) → flagged e m c f ≡ cond (eqb c 0) f 1
 unfolding flagged
 flagged-test e p q m c f = rw (q, p) (turned (eqb c 0) f)
 
 module _ (shape : Shape) (line : ℕ) (row : List ℕ) where
   -- the row's match byte
   abbrev pub matched : Entry → ℕ
-  matched e = lineMatch line (testVector shape e) row
+  matched e = lineMatch (levels shape) line (testVector shape e) row
 
   step-counted :
-      (c f : ℕ) (e : Entry) → e .opens ≡ false
+      (c f : ℕ) (e : Entry) → e .kind ≡ counts
       → tallyStep shape line row e (tally (c % shape .radix) f)
       ≡ tally (reset e ((c + matched e) % shape .radix)) (flagged e (matched e) ((c + matched e) % shape .radix) f)
   unfolding tallyStep
@@ -59,7 +59,7 @@ module _ (shape : Shape) (line : ℕ) (row : List ℕ) where
   step-plain :
       (s c f : ℕ) (e : Entry) → Plain s e → tallyStep shape line row e (tally (c % shape .radix) f) ≡ tally ((c + matched e) % shape .radix) f
   unfolding flagged reset
-  step-plain s c f e p = step-counted c f e (p .opens) ∙ simp (p .resets, p .flags)
+  step-plain s c f e p = step-counted c f e (p .kind) ∙ simp (p .resets, p .flags)
 
 module _ (z : ℕ) (shape : Shape) (line : ℕ) (row : List ℕ) where
   step-last :
@@ -68,8 +68,8 @@ module _ (z : ℕ) (shape : Shape) (line : ℕ) (row : List ℕ) where
   unfolding reset testVector
   step-last s c f e p =
       let d : ℕ = (c + matched shape line row e) % shape .radix in
-      step-counted shape line row c f (ending z e) (p .opens)
-      ∙ ap₂ tally (ap (λ i. cond (eqb i z) 0 d) (p .digit)) (flagged-test (ending z e) (p .opens) refl (matched shape line row e) d f)
+      step-counted shape line row c f (ending z e) (p .kind)
+      ∙ ap₂ tally (ap (λ i. cond (eqb i z) 0 d) (p .digit)) (flagged-test (ending z e) (p .kind) refl (matched shape line row e) d f)
 
   pub run-digit :
       (s c f : ℕ) (es : List Entry) → All (Plain s) es → 0 < length es

@@ -3,11 +3,11 @@
 use mathlib.Core.Path.{_≡_, refl, sym, ap, fun-ext, _∙_}
 use mathlib.Core.Bool.{Bool, true, false, cond, _&&_, not-eq-not}
 use mathlib.Core.List.{List, map}
-use Prim.Native.Nat.{ℕ, suc, _+_, _-_, _/_, _%_, _^_, _<_}
+use Prim.Native.Nat.{ℕ, suc, _+_, _-_, _*_, _/_, _%_, _^_, _<_}
 use native.Mathlib.Nat.{div-eq-of-lt}
 use native.Mathlib.Omega.{arith}
 use lib.Arith.{comp-comp}
-use lib.Dec.{eqb}
+use lib.Dec.{eqb, leb}
 use lib.ListN.{length, getD}
 use borrow.Author.Tests.{eqb-true, eqb-false}
 use Rattle.parity.specs.Lists.{sumOver, everyTo}
@@ -19,6 +19,7 @@ use Rattle.parity.specs.Match.{lineMatch}
 use Rattle.parity.specs.Questions.{Taken}
 use Rattle.parity.specs.declared.Shape.{Shape}
 use Rattle.parity.proofs.Taken.{limits}
+use Rattle.parity.proofs.Comparator.{answers-level, line-sound}
 use Rattle.parity.proofs.ListLaws.{everyTo-at, everyTo-passes}
 use Rattle.schedule.specs.Schedule.{factors, within, tests, schedule}
 use Rattle.schedule.specs.Coarse.{isBalancedFrom}
@@ -30,7 +31,7 @@ use Rattle.schedule.proofs.Lookup.{match-entry}
 use Rattle.schedule.proofs.Counting.{answers-count}
 use Rattle.schedule.proofs.Support.{support-below}
 use Rattle.schedule.proofs.Balanced.{alike, balancedClaim}
-use Rattle.schedule.proofs.Opening.{opening-sound, deadClaim}
+use Rattle.schedule.proofs.Openings.{openings-sound, unsoundClaim}
 use Rattle.schedule.proofs.Digit.{tally, matched}
 use Rattle.schedule.proofs.Sweep.{reading, readings, isQuiet, checkQuiet, tests-run}
 
@@ -54,15 +55,22 @@ module _
   abbrev shares : ℕ → ℕ
   shares s = sumOver js (λ j. getD row j 0 / shape .radix ^ s)
 
+  -- a cell below q is compared and no more
+  match-cell : (s j a : ℕ) → j < columns shape → matched shape 0 row (within ℓ s j a) ≡ cond (leb (a * shape .radix ^ s) (getD row j 0)) 1 0
+  unfolding lineMatch
+  match-cell s j a l =
+      line-sound _
+      ∙ match-entry shape t (within ℓ s j a) row l sized
+      ∙ ap (λ b. cond b 1 0) (answers-level (levels shape) (a * shape .radix ^ s) (getD row j 0) (below j l))
+
   -- the match bytes of one column ..
   cell-matched :
       (s j : ℕ) → s < shape .digits → j < columns shape
       → sumOver (map (within ℓ s j) (factors shape s)) (matched shape 0 row) + getD row j 0 / shape .radix ^ suc s ≡ getD row j 0 / shape .radix ^ s
-  unfolding lineMatch
   cell-matched s j lt l =
       ap (λ x. x + getD row j 0 / shape .radix ^ suc s)
       (sum-map (matched shape 0 row) (within ℓ s j) (factors shape s)
-      ∙ ap (sumOver (factors shape s)) (fun-ext (λ a. match-entry shape (within ℓ s j a) row l sized)))
+      ∙ ap (sumOver (factors shape s)) (fun-ext (λ a. match-cell s j a l)))
       ∙ answers-count shape (omega (arith, limits shape t .radixLow)) s lt (getD row j 0) (below j l)
 
   -- .. and of one digit
@@ -117,14 +125,14 @@ module _
   sound-test : tallyRun s 0 row (schedule z s) freshTally ≡ tally 0 (cond (isBalancedFrom z s row) 0 1)
   unfolding schedule
   sound-test =
-      ap (tallyRun s 0 row (tests z s)) (opening-sound s t row sized 0 0) ∙ tests-run z s t 0 row 0 ∙ ap (λ b. tally 0 (cond b 0 1)) all-balanced
+      ap (tallyRun s 0 row (tests z s)) (openings-sound s t row sized 0 0) ∙ tests-run z s t 0 row 0 ∙ ap (λ b. tally 0 (cond b 0 1)) all-balanced
 
   pub flag-test : (line : ℕ) → tallyRun s line row (schedule z s) freshTally ≡ tally 0 (cond (eqb line 0 && isBalancedFrom z s row) 0 1)
   flag-test line = go (eqb line 0) refl
     where
       go : (b : Bool) → eqb line 0 ≡ b → tallyRun s line row (schedule z s) freshTally ≡ tally 0 (cond (b && isBalancedFrom z s row) 0 1)
       go true e = ap (λ line. tallyRun s line row (schedule z s) freshTally) (eqb-true line 0 e) ∙ sound-test
-      go false e = deadClaim z s line (eqb-false line 0 e) row
+      go false e = unsoundClaim z s t line (eqb-false line 0 e) row
 
   flags-after : AfterCycle z s row (tallyRun s 0 row (schedule z s) freshTally)
   flags-after =

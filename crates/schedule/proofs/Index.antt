@@ -17,7 +17,7 @@ use Rattle.parity.specs.Matrix.{support}
 use Rattle.parity.specs.Questions.{Taken}
 use Rattle.parity.specs.declared.Shape.{Shape}
 use Rattle.parity.proofs.Taken.{limits}
-use Rattle.schedule.specs.Schedule.{Entry, factors, within, ending, ofDigit, sweep, ofCheck, tests}
+use Rattle.schedule.specs.Schedule.{counts, Entry, factors, within, ending, ofDigit, sweep, ofCheck, tests}
 use Rattle.schedule.specs.Index.{IsPlace, supportSize, rank, span, placeIndex, endsAt, entryOf}
 use Rattle.schedule.specs.Claims.{IndexClaim}
 use Rattle.schedule.proofs.Sums.{length-joined, sum-steps, sum-times}
@@ -40,7 +40,7 @@ last-last m w r c h k = go (eqb (suc r) m) (eqb (suc c) w) refl refl
 -- an entry that ends its digit or not
 marked : (z ℓ d j a : ℕ) (b : Bool)
     → cond b (ending z (within ℓ d j a)) (within ℓ d j a)
-    ≡ record { check = ℓ; digit = d; column = j; factor = a; opens = false; flags = b; resets = b && eqb d z }
+    ≡ record { check = ℓ; digit = d; column = j; factor = a; kind = counts; flags = b; resets = b && eqb d z }
 marked z ℓ d j a true = refl
 marked z ℓ d j a false = refl
 

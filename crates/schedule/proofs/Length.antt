@@ -1,4 +1,4 @@
--- The schedule has the opening and (q / ρ^z − 1) × W tests: over the digits of a sweep the numbers of factors add up to q / ρ^z − 1. Assumes nothing.
+-- The schedule has two openings and (q / ρ^z − 1) × W tests: over the digits of a sweep the numbers of factors add up to q / ρ^z − 1. Assumes nothing.
 use mathlib.Core.Path.{_≡_, refl, ap, _∙_}
 use mathlib.Core.Bool.{Bool, true, false}
 use mathlib.Core.List.{List, map}
@@ -97,10 +97,10 @@ tests-length z s t =
     length-joined (checks s) (ofCheck z s)
     ∙ sum-times (checks s) (levels s / s .radix ^ z - 1) (λ ℓ. length (ofCheck z s ℓ)) (λ ℓ. length (support s ℓ)) (λ ℓ h. check-length z s t ℓ)
 
--- .. and the opening before them
+-- .. and the two openings before them
 pub schedule-length : (z : ℕ) (s : Shape) → Taken s → length (schedule z s) ≡ cycleSteps z s
 unfolding schedule
-schedule-length z s t = ap suc (tests-length z s t)
+schedule-length z s t = ap (λ n. suc (suc n)) (tests-length z s t)
 
 pub lengthClaim : LengthClaim
 lengthClaim z s t = (schedule-length z s t, tests-length z s t)

@@ -16,6 +16,6 @@ pub mod Coarse
 pub mod Runs
 pub mod Digit
 pub mod Sweep
-pub mod Opening
+pub mod Openings
 pub mod Flags
 pub mod Cap

@@ -7,6 +7,7 @@ use lib.ListN.{length, getD, take}
 use lib.Seq.{take-suc}
 use Rattle.parity.specs.Lists.{joined}
 use Rattle.parity.specs.Match.{matchByte, lineMatch}
+use Rattle.parity.specs.Shape.{levels}
 use Rattle.parity.specs.declared.Shape.{Shape}
 use Rattle.schedule.specs.Schedule.{Entry, testVector}
 use Rattle.schedule.specs.Tally.{Tally, tallyStep, tallyRun}
@@ -37,7 +38,7 @@ module _ (s : Shape) (line : ℕ) (row : List ℕ) where
 -- two rows that give each lookup the same match byte are counted alike, whatever their line
 pub tallyRun-alike :
     (s : Shape) (line : ℕ) (row row′ : List ℕ) (es : List Entry)
-    → All (λ e. matchByte (testVector s e) row ≡ matchByte (testVector s e) row′) es
+    → All (λ e. matchByte (levels s) (testVector s e) row ≡ matchByte (levels s) (testVector s e) row′) es
     → (tally : Tally) → tallyRun s line row es tally ≡ tallyRun s line row′ es tally
 unfolding tallyStep lineMatch
 tallyRun-alike s line row row′ [] h tally = refl

@@ -45,7 +45,7 @@ module _ (z : ℕ) (shape : Shape) (t : Taken shape) (line : ℕ) (row : List �
   -- no column is left out of a digit's tests, which count and no more
   plain : (ℓ : ℕ) (js : List ℕ) (s : ℕ) → All (Plain s) (entries shape ℓ js s)
   plain ℓ js s =
-      all-pairs (Plain s) (λ j. Unit {0}) (λ a. Unit {0}) (within ℓ s) (λ j a l k. record { digit = refl; opens = refl; flags = refl; resets = refl })
+      all-pairs (Plain s) (λ j. Unit {0}) (λ a. Unit {0}) (within ℓ s) (λ j a l k. record { digit = refl; kind = refl; flags = refl; resets = refl })
       js (factors shape s) (all-each _ js (λ j l. tt)) (all-each _ (factors shape s) (λ a l. tt))
 
   module _ (ℓ : ℕ) (js : List ℕ) (some : 0 < length js) (f : ℕ) where

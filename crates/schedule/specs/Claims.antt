@@ -2,21 +2,21 @@
 use mathlib.Core.Path.{_≡_}
 use mathlib.Core.Logic.{_↔_, _≢_}
 use mathlib.Core.Bool.{true}
-use mathlib.Core.List.{List, map}
-use Prim.Native.Nat.{ℕ, _-_, _<_, min}
+use mathlib.Core.List.{List, [], _∷_, map}
+use Prim.Native.Nat.{ℕ, _-_, _%_, _<_, min}
 use lib.ListN.{length, getD}
-use Rattle.parity.specs.Shape.{levels, columns}
-use Rattle.parity.specs.Matrix.{lookups, cycleSteps}
+use Rattle.parity.specs.Shape.{levels, checks, columns}
+use Rattle.parity.specs.Matrix.{support, lookups, cycleSteps}
 use Rattle.parity.specs.Codeword.{Codeword}
 use Rattle.parity.specs.Claims.{Below}
 use Rattle.parity.specs.Questions.{Taken}
 use Rattle.parity.specs.declared.Shape.{Shape}
-use Rattle.schedule.specs.Schedule.{Entry, tests, schedule}
+use Rattle.schedule.specs.Schedule.{Entry, tests, deadOpening, shortedOpening, schedule}
 use Rattle.schedule.specs.Coarse.{BalancedFrom, isBalancedFrom}
 use Rattle.schedule.specs.Index.{IsPlace, placeIndex, entryOf}
 use Rattle.schedule.specs.Tally.{Tally, tallyRun, freshTally}
 
--- The schedule has the opening and (q / ρ^z − 1) × W tests, whatever the number of rows.
+-- The schedule has two openings and (q / ρ^z − 1) × W tests, whatever the number of rows.
 abbrev pub LengthClaim : Type 0
 LengthClaim = (z : ℕ) (s : Shape) → Taken s → (length (schedule z s) ≡ cycleSteps z s) × (length (tests z s) ≡ lookups z s)
 
@@ -41,10 +41,30 @@ FlagClaim =
     (z : ℕ) (s : Shape) → Taken s → (row : List ℕ) → length row ≡ columns s → Below (levels s) (columns s) row
     → AfterCycle z s row (tallyRun s 0 row (schedule z s) freshTally)
 
--- A row with a dead line is flagged, whatever bytes its cells hold, and its counter is 0.
-abbrev pub DeadClaim : Type 0
-DeadClaim =
-    (z : ℕ) (s : Shape) (line : ℕ) → line ≢ 0 → (row : List ℕ) → tallyRun s line row (schedule z s) freshTally ≡ record { counter = 0; flag = 1 }
+-- A row whose line isn't sound, dead or shorted, is flagged, whatever bytes its cells hold, and its counter is 0.
+abbrev pub UnsoundClaim : Type 0
+UnsoundClaim =
+    (z : ℕ) (s : Shape) → Taken s → (line : ℕ) → line ≢ 0 → (row : List ℕ)
+    → tallyRun s line row (schedule z s) freshTally ≡ record { counter = 0; flag = 1 }
+
+-- Both openings are wanted: without the first nothing shows a dead row, and without the second nothing shows a shorted one where each J(ℓ) has a
+-- multiple of ρ columns.
+pub record UnseenClaim : Type 0 where
+  pub dead :
+      (z : ℕ) (s : Shape) → Taken s → (line : ℕ) → line ≢ 0 → line ≢ 2 → (row : List ℕ)
+      → tallyRun s line row (shortedOpening s ∷ tests z s) freshTally ≡ freshTally
+  pub shorted :
+      (z : ℕ) (s : Shape) → Taken s → ((ℓ : ℕ) → ℓ < checks s → length (support s ℓ) % s .radix ≡ 0) → (row : List ℕ)
+      → tallyRun s 2 row (deadOpening ∷ tests z s) freshTally ≡ freshTally
+
+-- ρ 2, b 1, τ 1, k 1: its one J has 2 columns, and its tests alone leave a shorted row's counter and flag at 0. The whole schedule flags the row.
+abbrev pub twoColumns : Shape
+twoColumns = record { radix = 2; digits = 1; errors = 1; width = 1; rows = 1 }
+
+pub record TestsAloneClaim : Type 0 where
+  pub columns : map (λ ℓ. length (support twoColumns ℓ)) (0 ∷ []) ≡ 2 ∷ []
+  pub unseen : tallyRun twoColumns 2 (1 ∷ 1 ∷ []) (tests 0 twoColumns) freshTally ≡ record { counter = 0; flag = 0 }
+  pub seen : tallyRun twoColumns 2 (1 ∷ 1 ∷ []) (schedule 0 twoColumns) freshTally ≡ record { counter = 0; flag = 1 }
 
 -- A cell of q or more answers every lookup of a schedule as q − 1 does.
 abbrev pub CapClaim : Type 0

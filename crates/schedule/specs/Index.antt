@@ -2,7 +2,7 @@
 -- record's place is that of its count.
 use mathlib.Core.Path.{_≡_}
 use mathlib.Core.Logic.{_≢_}
-use mathlib.Core.Bool.{Bool, false, _&&_}
+use mathlib.Core.Bool.{Bool, _&&_}
 use Prim.Native.Nat.{ℕ, suc, _+_, _-_, _*_, _/_, _%_, _^_, _≤_, _<_}
 use lib.Dec.{eqb}
 use lib.ListN.{length, getD, take}
@@ -10,7 +10,7 @@ use Rattle.parity.specs.Lists.{sumTo}
 use Rattle.parity.specs.Shape.{levels, checks, columns}
 use Rattle.parity.specs.Matrix.{bit, matrix, placesFrom, support}
 use Rattle.parity.specs.declared.Shape.{Shape}
-use Rattle.schedule.specs.Schedule.{Entry}
+use Rattle.schedule.specs.Schedule.{Entry, counts}
 
 -- |J(ℓ)|
 unfoldable pub supportSize : Shape → ℕ → ℕ
@@ -55,7 +55,7 @@ entryOf z s ℓ d j a =
       digit = d;
       column = j;
       factor = a;
-      opens = false;
+      kind = counts;
       flags = endsAt s ℓ d j a;
       resets = endsAt s ℓ d j a && eqb d z;
     }

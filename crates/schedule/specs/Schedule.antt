@@ -1,5 +1,6 @@
 -- Document 01, "Schedule": the lookups of a detection cycle (the paper's test vectors), in their order. A cycle skips a number z of low digits
--- (document 02, Card 2), and opens with the all-zero vector (Card 4); where z is 0 the tests after the opening are document 01's.
+-- (document 02, Card 2), and opens with the all-zero vector (Card 4) and with q in column 0 (Card 7); where z is 0 the tests after these openings are
+-- document 01's.
 use mathlib.Core.Bool.{Bool, true, false, cond, not}
 use mathlib.Core.List.{List, [], _∷_, _++_, map}
 use Prim.Native.Nat.{ℕ, suc, _-_, _*_, _/_, _%_, _^_}
@@ -9,6 +10,13 @@ use Rattle.parity.specs.Shape.{levels, checks, columns}
 use Rattle.parity.specs.Matrix.{support}
 use Rattle.parity.specs.declared.Shape.{Shape}
 
+-- What is done with the match bytes of a lookup.
+pub data Kind : Type 0 where
+  -- An opening: every row with a sound line gives this byte. Rows that give the other are to be flagged, and nothing is counted.
+  opens : ℕ → Kind
+  -- A test: the match bytes are counted, and rows whose counter isn't 0 are to be flagged.
+  counts : Kind
+
 -- One lookup of the schedule: what is fed, and what is done with the match bytes.
 pub record Entry : Type 0 where
   -- ℓ, s, j and a: the vector is a × ρ^s in column j and 0 elsewhere
@@ -16,9 +24,7 @@ pub record Entry : Type 0 where
   pub digit : ℕ
   pub column : ℕ
   pub factor : ℕ
-  -- Whether it is an opening: rows that don't match are to be flagged, and nothing is counted. Every other entry is a test: the match bytes are
-  -- counted, and rows whose counter isn't 0 are to be flagged.
-  pub opens : Bool
+  pub kind : Kind
   -- Whether rows are flagged now: at an opening, and at the last entry of each s.
   pub flags : Bool
   -- Whether counters return to 0 after that: at the last entry of each ℓ.
@@ -41,12 +47,12 @@ atLast f (x ∷ y ∷ ys) = x ∷ atLast f (y ∷ ys)
 
 -- a test that counts and no more
 abbrev pub within : ℕ → ℕ → ℕ → ℕ → Entry
-within ℓ s j a = record { check = ℓ; digit = s; column = j; factor = a; opens = false; flags = false; resets = false }
+within ℓ s j a = record { check = ℓ; digit = s; column = j; factor = a; kind = counts; flags = false; resets = false }
 
 -- the same as the last of its s: it flags, and it resets where s is z, the last of its ℓ
 abbrev pub ending : ℕ → Entry → Entry
 ending z e =
-    record { check = e .check; digit = e .digit; column = e .column; factor = e .factor; opens = e .opens; flags = true; resets = eqb (e .digit) z }
+    record { check = e .check; digit = e .digit; column = e .column; factor = e .factor; kind = e .kind; flags = true; resets = eqb (e .digit) z }
 
 -- the entries of one ℓ and s over a list of columns: each j of these, within it each a
 unfoldable pub ofDigit : ℕ → Shape → ℕ → List ℕ → ℕ → List Entry
@@ -64,13 +70,24 @@ ofCheck z shape ℓ = sweep z shape ℓ (support shape ℓ)
 unfoldable pub tests : ℕ → Shape → List Entry
 tests z shape = joined (checks shape) (ofCheck z shape)
 
--- the opening: the all-zero vector, which is 0 × ρ^0 in column 0 and 0 elsewhere, and which every row with a sound line matches
-abbrev pub opening : Entry
-opening = record { check = 0; digit = 0; column = 0; factor = 0; opens = true; flags = true; resets = false }
+-- an opening that feeds a × ρ^s to column 0, and to which every row with a sound line gives this byte
+abbrev pub opening : ℕ → ℕ → ℕ → Entry
+opening byte s a = record { check = 0; digit = s; column = 0; factor = a; kind = opens byte; flags = true; resets = false }
+
+-- the first: the all-zero vector, which is 0 × ρ^0 in column 0 and 0 elsewhere; every row with a sound line matches it, and no dead one does
+abbrev pub deadOpening : Entry
+deadOpening = opening 1 0 0
+
+-- the second: q, which is 1 × ρ^b, in column 0 and 0 elsewhere, whatever digits are skipped; no row with a sound line matches it, and every shorted one does
+abbrev pub shortedOpening : Shape → Entry
+shortedOpening shape = opening 0 (shape .digits) 1
+
+abbrev pub openings : Shape → List Entry
+openings shape = deadOpening ∷ shortedOpening shape ∷ []
 
 -- the whole schedule
 unfoldable pub schedule : ℕ → Shape → List Entry
-schedule z shape = opening ∷ tests z shape
+schedule z shape = openings shape ++ tests z shape
 
 -- the vector with x in column j and 0 elsewhere
 unfoldable pub unitVector : ℕ → ℕ → ℕ → List ℕ

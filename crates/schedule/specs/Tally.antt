@@ -4,25 +4,28 @@ use mathlib.Core.List.{List, [], _∷_}
 use Prim.Native.Nat.{ℕ, _+_, _%_}
 use lib.Dec.{eqb}
 use Rattle.parity.specs.Match.{lineMatch}
+use Rattle.parity.specs.Shape.{levels}
 use Rattle.parity.specs.declared.Shape.{Shape}
-use Rattle.schedule.specs.Schedule.{Entry, testVector}
+use Rattle.schedule.specs.Schedule.{Kind, opens, counts, Entry, testVector}
 
 -- the counter, and the flag: 0, or a byte that is not 0
 pub record Tally : Type 0 where
   pub counter : ℕ
   pub flag : ℕ
 
--- an opening leaves the counter as it is; every other entry adds the match byte to it mod ρ
-unfoldable pub counted : Entry → ℕ → ℕ → ℕ → ℕ
-counted e ρ counter match = cond (e .opens) counter ((counter + match) % ρ)
+-- an opening leaves the counter as it is; a test adds the match byte to it mod ρ
+abbrev pub counted : Kind → ℕ → ℕ → ℕ → ℕ
+counted (opens byte) ρ counter match = counter
+counted counts ρ counter match = (counter + match) % ρ
 
--- whether a row is to be flagged: at an opening where it doesn't match, at every other entry where its counter isn't 0
-abbrev pub isSuspect : Entry → ℕ → ℕ → Bool
-isSuspect e match counter = cond (e .opens) (eqb match 0) (not (eqb counter 0))
+-- whether a row is to be flagged: at an opening where its match byte is not that of a sound line, at a test where its counter isn't 0
+abbrev pub isSuspect : Kind → ℕ → ℕ → Bool
+isSuspect (opens byte) match counter = not (eqb match byte)
+isSuspect counts match counter = not (eqb counter 0)
 
 -- an entry that flags: such a row is flagged 1; no flag falls back
 unfoldable pub flagged : Entry → ℕ → ℕ → ℕ → ℕ
-flagged e match counter flag = cond (e .flags && isSuspect e match counter) 1 flag
+flagged e match counter flag = cond (e .flags && isSuspect (e .kind) match counter) 1 flag
 
 -- an entry that resets: counters return to 0
 unfoldable pub reset : Entry → ℕ → ℕ
@@ -31,8 +34,8 @@ reset e counter = cond (e .resets) 0 counter
 -- one lookup's effect on the tally of a row with this line byte and these cells
 unfoldable pub tallyStep : Shape → ℕ → List ℕ → Entry → Tally → Tally
 tallyStep shape line row e tally =
-    let match = lineMatch line (testVector shape e) row in
-    let counter = counted e (shape .radix) (tally .counter) match in
+    let match = lineMatch (levels shape) line (testVector shape e) row in
+    let counter = counted (e .kind) (shape .radix) (tally .counter) match in
     record { counter = reset e counter; flag = flagged e match counter (tally .flag) }
 
 -- the effect of several lookups, in order

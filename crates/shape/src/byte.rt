@@ -1,4 +1,5 @@
-// A byte read as a number, its bits, bytes filled with one value or copied, the largest of them, and how many differ.
+// A byte and an input read as numbers, a byte's bits, bytes filled with one value or copied, the largest of bytes and of inputs,
+// and how many bytes differ.
 ghost use mathlib.Core.Path.{_≡_};
 ghost use Prim.Native.Nat.{_^_, _≤_};
 ghost use lib.Dec.{ltb};
@@ -12,6 +13,13 @@ pub fn wide(byte: u8) -> usize
     ensures { λ r. ⌜ r ≡ byte ⌝ }
 {
     byte as usize
+}
+
+// The same for an input, which has 16 bits since it runs to q.
+pub fn wide_input(input: u16) -> usize
+    ensures { λ r. ⌜ r ≡ input ⌝ }
+{
+    input as usize
 }
 
 // 2^ℓ: in a column, the bit of check row ℓ.
@@ -56,6 +64,22 @@ pub fn largest(bytes: &[u8]) -> u8
         let byte = bytes[i];
         if most < byte {
             most = byte;
+        }
+        i += 1;
+    }
+    most
+}
+
+// The same of inputs.
+pub fn largest_input(inputs: &[u16]) -> u16
+    ensures { λ r. ⌜ r ≡ greatest (was inputs) ⌝ }
+{
+    let mut most: u16 = 0;
+    let mut i: usize = 0;
+    while i < inputs.len() {
+        let input = inputs[i];
+        if most < input {
+            most = input;
         }
         i += 1;
     }

@@ -1,5 +1,7 @@
 // Questions asked one after the other: the answer so far has the shape's sizes, or the number of the first no, which stays.
 use super::byte::all_below;
+use super::byte::largest_input;
+use super::byte::wide_input;
 use super::sizes::Checked;
 use super::sizes::Sizes;
 ghost use mathlib.Core.Path.{_≡_};
@@ -7,7 +9,7 @@ ghost use mathlib.Core.List.{[], _∷_};
 ghost use Prim.Native.Nat.{_<_};
 ghost use lib.Dec.{eqb};
 ghost use Rattle.parity.specs.Lists.{alongside};
-ghost use Rattle.parity.specs.Questions.{question, levelsQuestion};
+ghost use Rattle.parity.specs.Questions.{question, levelsQuestion, inputsQuestion};
 ghost use Rattle.shape.specs.Lent.{was};
 ghost use Rattle.shape.specs.Shapes.{checkedSays, sizesIn, thenSays};
 
@@ -69,6 +71,21 @@ impl Checked {
             Checked::Taken(sizes) => {
                 let levels = sizes.levels;
                 if all_below(given, levels) {
+                    return Checked::Taken(sizes);
+                }
+                Checked::Refused(8)
+            }
+        }
+    }
+    // Question 8 of inputs, which may be q: the largest decides.
+    pub fn check_inputs(self, inputs: &[u16]) -> Self
+        ensures { λ r. ⌜ checkedSays r ≡ thenSays self (inputsQuestion (sizesIn self .levels) (was inputs) ∷ []) ⌝ }
+    {
+        match self {
+            Checked::Refused(first) => Checked::Refused(first),
+            Checked::Taken(sizes) => {
+                let levels = sizes.levels;
+                if wide_input(largest_input(inputs)) <= levels {
                     return Checked::Taken(sizes);
                 }
                 Checked::Refused(8)

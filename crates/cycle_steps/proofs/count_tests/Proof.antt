@@ -118,7 +118,7 @@ loop-holds c =
       record {
         sized = start .pre .1 .0 .memory;
         cycle = tests .stands;
-        opened = tests .opened;
+        opened = tests .made;
         stands = first start;
         column = column-is start (start .args .cycle .place .column) (start .pre .1 .0 .matches) (given .column);
         below = given .below;

@@ -48,7 +48,7 @@ returns-2 c = search needs
 sub-result : tie.Need-sub-result
 sub-result c = search needs
 
--- without the opening
+-- without the openings
 returns-3 : tie.Need-returns-3
 returns-3 c = search needs
 

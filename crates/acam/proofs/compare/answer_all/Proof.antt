@@ -3,15 +3,15 @@ use mathlib.Core.Path.{_≡_, refl, sym, _∙_, ap}
 use mathlib.Core.Bool.{_&&_, and-assoc, and-true}
 use Prim.Native.Nat.{_+_, _-_, _≤_}
 use native.Mathlib.Omega.{arith}
+use lib.Dec.{leb}
 use lib.ListN.{length}
 use borrow.Author.Needs.{needs}
-use Rattle.parity.specs.Match.{answers}
 use Rattle.parity.proofs.Alongside.{alongsideFrom, alongside-next, alongside-ended}
 use Rattle.acam.proofs.compare.answer_all.Statement.{statement}
 use Rattle.acam.proofs.compare.answer_all.Tie as tie
 
 abbrev Inv-loop : tie.InvT-loop
-Inv-loop inputs cells all₀ j₀ all j = (j ≤ 16) × (all && alongsideFrom answers inputs cells j ≡ alongsideFrom answers inputs cells 0)
+Inv-loop inputs cells all₀ j₀ all j = (j ≤ 16) × (all && alongsideFrom leb inputs cells j ≡ alongsideFrom leb inputs cells 0)
 
 abbrev μ-loop : tie.MeasureT-loop
 μ-loop inputs cells all₀ j₀ all j = 16 - j
@@ -39,10 +39,10 @@ loop-again c =
     let turn = c .before .before .before .before in
     let args = turn .before .before .before .args in
     let loop = turn .loop in
-    let rest = alongsideFrom answers (args .inputs .now) (args .cells .now) (loop .j + 1) in (
+    let rest = alongsideFrom leb (args .inputs .now) (args .cells .now) (loop .j + 1) in (
       omega arith,
       ap (λ t. loop .all && t && rest) (c .answers .ensures) ∙ and-assoc (loop .all) _ rest
-          ∙ ap (λ t. loop .all && t) (sym (alongside-next answers (args .inputs .now) (args .cells .now) (omega arith) (loop .j) (omega arith)))
+          ∙ ap (λ t. loop .all && t) (sym (alongside-next leb (args .inputs .now) (args .cells .now) (omega arith) (loop .j) (omega arith)))
           ∙ loop .inv .1,
     )
 
@@ -51,9 +51,9 @@ returns c =
     let args = c .before .before .before .before .args in
     let loop = c .before .loop in
     let ended : loop .j ≡ length (args .inputs .now) = omega arith in
-    let none = alongside-ended answers (args .inputs .now) (args .cells .now) (omega arith) in
+    let none = alongside-ended leb (args .inputs .now) (args .cells .now) (omega arith) in
     sym (and-true (loop .all))
-    ∙ ap (λ t. loop .all && t) (sym none ∙ ap (alongsideFrom answers (args .inputs .now) (args .cells .now)) (sym ended))
+    ∙ ap (λ t. loop .all && t) (sym none ∙ ap (alongsideFrom leb (args .inputs .now) (args .cells .now)) (sym ended))
     ∙ loop .inv .1
 
 pub answer-all-spec : {M : Type 1} → statement M

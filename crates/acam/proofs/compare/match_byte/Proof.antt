@@ -7,8 +7,8 @@ use lib.ListN.{length}
 use borrow.Author.Needs.{needs}
 use borrow.Author.Tests.{not-true, not-false}
 use borrow.Rule.Slice.PartMut.{mid-len}
-use Rattle.parity.specs.Match.{matchByte}
-use Rattle.acam.proofs.Comparison.{FirstAnswer, stretch-fails, stretch-passes, compare-all}
+use Rattle.acam.specs.Cell.{comparedByte}
+use Rattle.acam.proofs.Comparison.{FirstReached, stretch-fails, stretch-passes, compare-all}
 use Rattle.acam.proofs.compare.match_byte.Statement.{statement}
 use Rattle.acam.proofs.compare.match_byte.Tie as tie
 
@@ -16,7 +16,7 @@ use Rattle.acam.proofs.compare.match_byte.Tie as tie
 abbrev Inv-loop : tie.InvT-loop
 Inv-loop inputs row start₀ next₀ start next =
     (start ≤ length inputs) × (start < next) × (next ≤ start + 16) × (next % 16 ≡ length inputs % 16)
-    × (start < length inputs → start + 16 ≤ length inputs) × FirstAnswer inputs row start
+    × (start < length inputs → start + 16 ≤ length inputs) × FirstReached inputs row start
 
 abbrev μ-loop : tie.MeasureT-loop
 μ-loop inputs row start₀ next₀ start next = length inputs - start
@@ -78,7 +78,7 @@ answer-all-requires c κs =
 
 -- a stretch says no
 returns-2 : tie.Need-returns-2 Inv-loop μ-loop
-unfolding matchByte
+unfolding comparedByte
 returns-2 c =
     let turn = turned (c .before) in
     let args = begun turn .args in
@@ -106,11 +106,11 @@ loop-again c =
 
 -- all cells answer
 returns-3 : tie.Need-returns-3 Inv-loop μ-loop
-unfolding matchByte
+unfolding comparedByte
 returns-3 c =
     let args = c .before .before .before .before .before .args in
     let all : c .before .loop .start ≡ length (args .inputs .now) = omega arith in
-    let first = subst (FirstAnswer (args .inputs .now) (args .row .now)) all (c .before .loop .inv .5) in
+    let first = subst (FirstReached (args .inputs .now) (args .row .now)) all (c .before .loop .inv .5) in
     ap (λ t. cond t 1 0) (sym (compare-all (args .inputs .now) (args .row .now) (omega arith) first))
 
 pub match-byte-spec : {M : Type 1} → statement M

@@ -6,7 +6,7 @@ use native.Mathlib.Omega.{arith}
 use lib.ListN.{length}
 use borrow.Author.Needs.{needs}
 use borrow.Author.Tests.{not-true, not-false}
-use Rattle.parity.specs.Match.{matchByte}
+use Rattle.acam.specs.Cell.{comparedByte}
 use Rattle.acam.proofs.Comparison.{compared, compare-fails, compare-passes, compare-ended}
 use Rattle.acam.proofs.compare.match_each.Statement.{statement}
 use Rattle.acam.proofs.compare.match_each.Tie as tie
@@ -38,7 +38,7 @@ answers-requires c κs = search needs
 
 -- a cell says no
 returns : tie.Need-returns Inv-loop μ-loop
-unfolding matchByte
+unfolding comparedByte
 returns c =
     let turn = looped (c .before) in
     let args = begun turn .args in
@@ -69,7 +69,7 @@ loop-again c =
 
 -- all cells answer
 returns-2 : tie.Need-returns-2 Inv-loop μ-loop
-unfolding matchByte
+unfolding comparedByte
 returns-2 c =
     let args = begun (c .before) .args in
     let all : c .before .loop .j ≡ length (args .inputs .now) = omega arith in

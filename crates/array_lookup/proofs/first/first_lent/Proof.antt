@@ -1,16 +1,14 @@
--- `array_lookup::first::first_lent` meets its contract: the search goes over the rows. Assumes nothing.
-use mathlib.Core.Path.{sym, ap, _∙_}
-use native.Mathlib.Omega.{arith}
-use lib.Dec.{eqb}
-use lib.ListN.{length}
-use Rattle.parity.specs.Match.{taskVector}
-use Rattle.parity.specs.Shape.{columns}
-use Rattle.shape.specs.Answers.{none, rowOrNone, accepted, answering}
-use Rattle.shape.proofs.Search.{search-same}
-use Rattle.array_memory.specs.Geometry.{rowMatch}
-use Rattle.array_lookup.specs.Lookups.{firstRow, firstCall}
-use Rattle.array_lookup.proofs.RowBytes.{task-byte}
-use Rattle.array_lookup.proofs.Asked.{ArrayTaken, first-taken, rows-lent}
+-- `array_lookup::first::first_lent` meets its contract: the inputs become bytes in an array, and the search goes over the rows with that part of it.
+-- Assumes nothing.
+use mathlib.Core.Path.{sym}
+use mathlib.Core.List.{List, _++_}
+use Prim.Native.Nat.{ℕ}
+use lib.ListN.{length, take, drop}
+use Rattle.parity.specs.Shape.{levels}
+use Rattle.array_lookup.proofs.Asked.{ArrayTaken}
+use Rattle.array_lookup.proofs.FirstRows.{taken, rows-searched, first-said}
+use Rattle.array_lookup.proofs.Front.{blank, Holds, front-fits, front-sized}
+use Rattle.array_lookup.proofs.Narrowing.{Narrowed, bytesOf, bytes-ask, bytes-held, bytes-narrowed}
 use Rattle.array_lookup.proofs.first.first_lent.Statement.{statement}
 use Rattle.array_lookup.proofs.first.first_lent.Tie as tie
 
@@ -19,30 +17,67 @@ abbrev begun : tie.After-shared-slice-known3 → tie.Start
 begun c = c .before .before .before
 
 given : (c : tie.Start) → let args = c .args in ArrayTaken (args .shape) (length (args .cells .now)) (length (args .lines .now)) (args .inputs .now)
-given c = let args = c .args in first-taken (args .shape) (length (args .cells .now)) (length (args .lines .now)) (args .inputs .now) (c .pre .none)
+given c = let args = c .args in taken (args .shape) (args .sizes) (args .cells .now) (args .lines .now) (args .inputs .now) (c .pre)
+
+array-borrow-prefix-bytes : tie.Need-array-borrow-prefix-bytes
+array-borrow-prefix-bytes c = front-fits _ (given (begun c) .cells .taken)
+
+slice-aggregate-narrow : tie.Need-slice-aggregate-narrow
+slice-aggregate-narrow c = sym (front-sized _ (given (begun (c .before)) .cells .taken))
+
+narrow-requires : tie.Need-narrow-requires
+narrow-requires c κs =
+    let start = begun (c .before) in
+    let p = given start in
+    bytes-ask (start .args .shape) (p .cells .taken) (start .args .inputs .now) (p .inputs)
+
+-- once the bytes are made
+module _ (c : tie.After-narrow) where
+  abbrev start : tie.Start
+  start = begun (c .before .before)
+
+  abbrev bytes : List ℕ
+  bytes = let width = start .args .shape .width in take width (c .narrow .last .1 .1 .0 ++ drop width blank)
+
+  held : let args = start .args in Holds (args .shape .width) (c .narrow .last .1 .1 .0 ++ drop (args .shape .width) blank) (bytesOf (args .inputs .now))
+  held = let p = given start in bytes-held (start .args .shape) (p .cells .taken) (start .args .inputs .now) (p .inputs) _ (c .narrow .ensures .1)
+
+  narrowed : let args = start .args in Narrowed (levels (args .shape)) (args .inputs .now) (c .narrow .result) bytes
+  narrowed =
+      let args = start .args in
+      let p = given start in
+      bytes-narrowed (args .shape) (p .cells .taken) (args .inputs .now) (p .inputs) _ (c .narrow .ensures .1) (args .sizes) (start .pre .sizes)
+      (c .narrow .result) (c .narrow .ensures .0)
+
+array-share-prefix-bytes : tie.Need-array-share-prefix-bytes
+array-share-prefix-bytes c = held (c .before) .within
+
+slice-aggregate-find-match : tie.Need-slice-aggregate-find-match
+slice-aggregate-find-match c = sym (held (c .before .before) .sized)
 
 find-match-requires : tie.Need-find-match-requires
 find-match-requires c κs =
-    let start = begun c in
-    let args = start .args in
-    rows-lent (args .shape) (length (args .cells .now)) (length (args .lines .now)) (args .sizes) (args .inputs .now) (given start) (start .pre .sizes)
+    let made = c .before .before in
+    let args = start made .args in
+    rows-searched (args .shape) (args .sizes) (args .cells .now) (args .lines .now) (args .inputs .now) (start made .pre) (made .narrow .result) (bytes made)
+    (narrowed made)
 
 -- the search's answer
 returns : tie.Need-returns
-unfolding firstCall
 returns c =
-    let start = begun (c .before) in
-    let args = start .args in
-    let s = args .shape in
-    let p = given start in
-    let found = firstRow (s .rows) (rowMatch (columns s) (taskVector s (args .inputs .now)) (args .cells .now) (args .lines .now)) in
-    λ mem. ap (λ n. answering none n found) (start .pre .none)
-    ∙ ap (λ i. accepted (rowOrNone (s .rows) i))
-    (sym
-    (search-same _ _ (s .rows) 0
-    (λ i h. ap (λ b. eqb b 1)
-    (task-byte s (args .sizes) (args .inputs .now) (args .cells .now) (args .lines .now) (p .cells) (start .pre .sizes) (p .inputs) i (omega arith)))))
-    ∙ sym (c .find-match .ensures)
+    let made = c .before .before .before in
+    let args = start made .args in
+    first-said (args .shape) (args .sizes) (args .cells .now) (args .lines .now) (args .inputs .now) (start made .pre) (made .narrow .result) (bytes made)
+    (narrowed made) _ (c .find-match .ensures)
 
 pub first-lent-spec : {M : Type 1} → statement M
-first-lent-spec = tie.close (tie.spec find-match-requires returns)
+first-lent-spec =
+    tie.close
+    (tie.spec
+    array-borrow-prefix-bytes
+    slice-aggregate-narrow
+    narrow-requires
+    array-share-prefix-bytes
+    slice-aggregate-find-match
+    find-match-requires
+    returns)

@@ -4,7 +4,7 @@ use mathlib.Core.List.{List}
 use lib.ListN.{length}
 use borrow.Author.Needs.{needs}
 use Rattle.parity.specs.Match.{taskVector}
-use Rattle.parity.specs.Shape.{columns}
+use Rattle.parity.specs.Shape.{levels, columns}
 use Rattle.parity.specs.Questions.{Question}
 use Rattle.shape.specs.Answers.{none, accepted, refused, answering}
 use Rattle.shape.proofs.Refusals.{answer-taken, answer-refused}
@@ -45,7 +45,8 @@ returns c =
     let answer = c .before .before .before in
     let start = begun answer in
     let s = start .args .shape in
-    let found = firstRow (s .rows) (rowMatch (columns s) (taskVector s (start .args .inputs .now)) (start .args .cells .now) (start .args .lines .now)) in
+    let vector = taskVector s (start .args .inputs .now) in
+    let found = firstRow (s .rows) (rowMatch (levels s) (columns s) vector (start .args .cells .now) (start .args .lines .now)) in
     let number = c .before .number .given in
     let no = answer-refused (questions start) s (answer .check-first .result) (answer .check-first .ensures) (number .0 .0) (number .1) in
     λ mem. ap (λ n. answering none n found) (no .0) ∙ if-no (number .0 .0) (no .1) (accepted found) (refused none (number .0 .0))

@@ -31,8 +31,8 @@ same-lengths-requires c κs = search needs
 check-requires : tie.Need-check-requires
 check-requires c κs = search needs
 
-check-levels-requires : tie.Need-check-levels-requires
-check-levels-requires c κs = search needs
+check-inputs-requires : tie.Need-check-inputs-requires
+check-inputs-requires c κs = search needs
 
 -- all asked
 returns : tie.Need-returns
@@ -43,9 +43,9 @@ returns c =
     let args = begun shape .args in
     let s = args .shape in
     let inputs = args .inputs .now in
-    inputs-asked s (args .cells) (args .lines) (shape .check-shape .result) (lengths .check .result) (c .check-levels .result) (sizes .sizes .result) _
+    inputs-asked s (args .cells) (args .lines) (shape .check-shape .result) (lengths .check .result) (c .check-inputs .result) (sizes .sizes .result) _
     inputs (length inputs ∷ []) (s .width ∷ []) (shape .check-shape .ensures) (sizes .sizes .ensures) (lengths .check .ensures)
-    (lengths .before .same-lengths .ensures) (c .check-levels .ensures)
+    (lengths .before .same-lengths .ensures) (c .check-inputs .ensures)
 
 pub check-first-spec : {M : Type 1} → statement M
 check-first-spec =
@@ -57,5 +57,5 @@ check-first-spec =
     slice-aggregate-same-lengths-2
     same-lengths-requires
     check-requires
-    check-levels-requires
+    check-inputs-requires
     returns)

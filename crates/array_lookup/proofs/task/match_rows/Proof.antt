@@ -12,7 +12,8 @@ use Rattle.parity.specs.Lists.{tabulate, sumOver}
 use Rattle.parity.proofs.ListLaws.{sum-append}
 use Rattle.parity.proofs.Filled.{filled, filled-next, filled-all}
 use Rattle.array_memory.proofs.RowPlaces.{row-fits}
-use Rattle.array_lookup.proofs.RowBytes.{byteOf, byte-high, part-byte}
+use Rattle.array_lookup.specs.Rows.{byteOf}
+use Rattle.array_lookup.proofs.RowBytes.{byte-high, part-byte}
 use Rattle.array_lookup.proofs.task.match_rows.Statement.{statement}
 use Rattle.array_lookup.proofs.task.match_rows.Tie as tie
 
@@ -20,12 +21,12 @@ abbrev sum : List ℕ → ℕ
 sum xs = sumOver xs (λ x. x)
 
 abbrev Inv-loop : tie.InvT-loop
-Inv-loop cells lines columns inputs matches₀ count₀ start₀ i₀ matches count start i =
+Inv-loop cells lines columns below inputs matches₀ count₀ start₀ i₀ matches count start i =
     (i ≤ length matches₀) × (length matches ≡ length matches₀) × (start ≡ i * columns) × (count ≤ i)
-    × (matches ≡ filled (byteOf inputs cells lines columns) matches₀ i) × (count ≡ sum (tabulate i (byteOf inputs cells lines columns)))
+    × (matches ≡ filled (byteOf below inputs cells lines columns) matches₀ i) × (count ≡ sum (tabulate i (byteOf below inputs cells lines columns)))
 
 abbrev μ-loop : tie.MeasureT-loop
-μ-loop cells lines columns inputs matches₀ count₀ start₀ i₀ matches count start i = length matches₀ - i
+μ-loop cells lines columns below inputs matches₀ count₀ start₀ i₀ matches count start i = length matches₀ - i
 
 -- the places of the call and of the loop, each from one that follows
 abbrev begun : tie.At-loop Inv-loop μ-loop → tie.Start Inv-loop μ-loop
@@ -47,19 +48,19 @@ ends c =
 byte-is :
     (c : tie.After-line-match Inv-loop μ-loop)
     → let args = begun (looped c) .args in
-    c .line-match .result ≡ byteOf (args .inputs .now) (args .cells .now) (args .lines .now) (args .columns) (looped c .loop .i)
+    c .line-match .result ≡ byteOf (args .below) (args .inputs .now) (args .cells .now) (args .lines .now) (args .columns) (looped c .loop .i)
 byte-is c =
     let args = begun (looped c) .args in
     let loop = looped c .loop in
     c .line-match .ensures
-    ∙ part-byte (args .inputs .now) (args .cells .now) (args .lines .now) (args .columns) (loop .i) (loop .start) (loop .start + args .columns - loop .start)
-    (loop .inv .2) (omega arith)
+    ∙ part-byte (args .below) (args .inputs .now) (args .cells .now) (args .lines .now) (args .columns) (loop .i) (loop .start)
+    (loop .start + args .columns - loop .start) (loop .inv .2) (omega arith)
 
 one-or-none : (c : tie.After-wide Inv-loop μ-loop) → c .wide .result ≤ 1
 one-or-none c =
     let turn = looped (c .before) in
     let args = begun turn .args in
-    let high = byte-high (args .inputs .now) (args .cells .now) (args .lines .now) (args .columns) (turn .loop .i) in
+    let high = byte-high (args .below) (args .inputs .now) (args .cells .now) (args .lines .now) (args .columns) (turn .loop .i) in
     omega (arith, c .wide .ensures ∙ byte-is (c .before))
 
 loop-holds : tie.Need-loop-holds Inv-loop μ-loop
@@ -107,7 +108,7 @@ loop-again c =
     let turn = looped (c .before) in
     let args = begun turn .args in
     let loop = turn .loop in
-    let byte = byteOf (args .inputs .now) (args .cells .now) (args .lines .now) (args .columns) in (
+    let byte = byteOf (args .below) (args .inputs .now) (args .cells .now) (args .lines .now) (args .columns) in (
       omega arith,
       length-set (loop .matches) (loop .i) (c .before .line-match .result) ∙ loop .inv .1,
       omega arith,
@@ -128,7 +129,7 @@ same-length c = omega arith
 returns : tie.Need-returns Inv-loop μ-loop
 returns c =
     let args = begun (c .before) .args in
-    let byte = byteOf (args .inputs .now) (args .cells .now) (args .lines .now) (args .columns) in
+    let byte = byteOf (args .below) (args .inputs .now) (args .cells .now) (args .lines .now) (args .columns) in
     let all : c .before .loop .i ≡ length (args .matches .now) = omega arith in
     let written = c .before .loop .inv .4 ∙ filled-all byte (args .matches .now) (c .before .loop .i) all in
     (c .before .loop .inv .5 ∙ ap (λ n. sum (tabulate n byte)) all ∙ ap sum (sym written), written)

@@ -3,14 +3,14 @@
 use mathlib.Core.Path.{_≡_, refl, sym, ap, _∙_}
 use mathlib.Core.Bool.{true, false}
 use mathlib.Core.List.{List, [], _∷_}
-use Prim.Native.Nat.{ℕ, suc, _<_}
+use Prim.Native.Nat.{ℕ, suc, _≤_, _<_}
 use lib.Dec.{lit<}
 use lib.ListN.{length}
 use borrow.Author.Needs.{needs}
 use Rattle.parity.specs.Questions.{Question, firstNo, Taken}
 use Rattle.shape.proofs.Refusals.{first-rest}
 use Rattle.array_questions.specs.Questions.{lentQuestions}
-use Rattle.schedule.specs.Schedule.{Entry, opening}
+use Rattle.schedule.specs.Schedule.{Entry}
 use Rattle.array_memory.specs.Blocks.{blocksOf}
 use Rattle.array_memory.specs.Lengths.{allLengths, Sized}
 use Rattle.array_memory.specs.Memory.{Memory, withRows, withAll, noMemory}
@@ -18,6 +18,7 @@ use Rattle.cycle_place.specs.Places.{nextAt}
 use Rattle.cycle_place.specs.Walk.{hereAt, testOf}
 use Rattle.cycle_place.proofs.Places.{place-entry}
 use Rattle.cycle_lookup.specs.Lookup.{entryMatches, lookedUp}
+use Rattle.cycle_lookup.specs.Rows.{openingOf}
 use Rattle.cycle.specs.Record.{recordAt, cycleAt, nextEntry, isNext, cycleQuestion}
 use Rattle.cycle.specs.Calls.{stateOf, stepMatches, steppedMemory, stepped, stepCall}
 use Rattle.cycle.specs.Methods.{changing, doneWith}
@@ -25,7 +26,7 @@ use Rattle.cycle.specs.declared.Cycle.{Cycle}
 use Rattle.cycle.specs.declared.Changed.{Changed}
 use Rattle.cycle.proofs.CycleRecord.{next-place}
 use Rattle.cycle.proofs.Given.{gives-refusal, gives-done}
-use Rattle.cycle.proofs.Located.{told-opening, told-test, told-none, entry-opening, movable, lent-taken, lent-sized, lent-matches}
+use Rattle.cycle.proofs.Located.{told-opening, told-test, told-none, movable, lent-taken, lent-sized, lent-matches}
 use Rattle.cycle.proofs.Cycle.step_at.Statement.{statement}
 use Rattle.cycle.proofs.Cycle.step_at.Tie as tie
 
@@ -88,15 +89,19 @@ module _ (c : tie.Start) where
 
 opening-found :
     (c : tie.After-known-told) → let args = begun (located c .before) .args in
-    (isNext (args .shape) (args .self) ≡ true) × (args .self .count ≡ 0) × (c .before .next .given .0 .0 ≡ nextAt (args .self .skip) (args .shape) 1)
+    (isNext (args .shape) (args .self) ≡ true)
+    × (args .self .count < 2)
+    × (c .before .byte .given .0 .0 ≤ 1)
+    × (nextEntry (args .shape) (args .self) ≡ openingOf (args .shape) (c .before .byte .given .0 .0))
+    × (c .before .byte .given .0 .1 .0 ≡ nextAt (args .self .skip) (args .shape) (suc (args .self .count)))
 opening-found c =
     let args = begun (located c .before) .args in
-    told-opening (args .self .skip) (args .shape) (args .self .place) _ _ _ (sym (located c .locate .ensures) ∙ c .before .next .given .1)
+    told-opening (args .self .skip) (args .shape) (args .self .place) _ _ _ _ (sym (located c .locate .ensures) ∙ c .before .byte .given .1)
 
 test-found :
     (c : tie.After-known-told2) → let args = begun (located-test c .before) .args in
     (isNext (args .shape) (args .self) ≡ true)
-    × (0 < args .self .count)
+    × (1 < args .self .count)
     × (c .before .here .given .0 .0 ≡ hereAt (args .self .skip) (args .shape) (args .self .count) (args .self .place))
 test-found c =
     let args = begun (located-test c .before) .args in
@@ -126,18 +131,21 @@ enum-told c = search needs
 refused-requires : tie.Need-refused-requires
 refused-requires c κs = search needs
 
-enum-known-next : tie.Need-enum-known-next
-enum-known-next c = search needs
+enum-known-byte : tie.Need-enum-known-byte
+enum-known-byte c = search needs
 
 make-opening-requires : tie.Need-make-opening-requires
 make-opening-requires c κs =
-    let start = begun (located (c .before .before .before) .before) in
-    let z = sized start in
-    record {
-      matches = z .lines ∙ sym (matches-sized start);
-      flags = z .lines ∙ sym (z .rows .flags);
-      totals = z .rows .totals ∙ ap blocksOf (sym (z .rows .flags));
-    }
+    let told = c .before .before .before in
+    let start = begun (located told .before) in
+    let z = sized start in (
+      opening-found told .2,
+      record {
+        matches = z .lines ∙ sym (matches-sized start);
+        flags = z .lines ∙ sym (z .rows .flags);
+        totals = z .rows .totals ∙ ap blocksOf (sym (z .rows .flags));
+      },
+    )
 
 moved-requires : tie.Need-moved-requires
 moved-requires c κs =
@@ -197,7 +205,7 @@ same-length-2 c = search needs
 same-length-3 : tie.Need-same-length-3
 same-length-3 c = search needs
 
--- the opening
+-- an opening
 returns-2 : tie.Need-returns-2
 unfolding cycleAt
 returns-2 c =
@@ -208,10 +216,9 @@ returns-2 c =
     let s = start .args .shape in
     let self = start .args .self in
     let t = taken start in
-    let (next, none, place) = opening-found told in
-    let after = moved .moved .ensures
-    ∙ ap (λ n. recordAt (self .skip) n (suc (self .count))) (place ∙ ap (λ c. nextAt (self .skip) s (suc c)) (sym none)) in
-    λ mem. step-gives start next opening (entry-opening s self none) mem _ _ _ _ (c .done .ensures)
+    let (next, few, low, entry, place) = opening-found told in
+    let after = moved .moved .ensures ∙ ap (λ n. recordAt (self .skip) n (suc (self .count))) place in
+    λ mem. step-gives start next (openingOf s (told .before .byte .given .0 .0)) entry mem _ _ _ _ (c .done .ensures)
     (opened .make-opening .ensures .0 s t (lent start mem) (sized start))
     (opened .make-opening .ensures .1 s t (lent start mem) (sized start)) (sym after)
 
@@ -253,7 +260,7 @@ step-at-spec =
     locate-requires
     enum-told
     refused-requires
-    enum-known-next
+    enum-known-byte
     make-opening-requires
     moved-requires
     done-requires

@@ -8,7 +8,7 @@ use borrow.Author.Needs.{needs}
 use borrow.Author.Tests.{not-true, not-false}
 use Rattle.parity.proofs.ListLaws.{length-tabulate}
 use Rattle.array_memory.specs.Blocks.{blocksOf, blockTotals}
-use Rattle.cycle_passes.specs.Passes.{overwrittenBytes}
+use Rattle.cycle_passes.specs.Passes.{flaggedBytes}
 use Rattle.cycle_lookup.proofs.column.end_test.Statement.{statement}
 use Rattle.cycle_lookup.proofs.column.end_test.Tie as tie
 
@@ -16,10 +16,10 @@ use Rattle.cycle_lookup.proofs.column.end_test.Tie as tie
 abbrev begun : tie.Else1 → tie.Start
 begun c = c .before .before .before .before
 
-abbrev ended : tie.After-overwrite → tie.Else1
+abbrev ended : tie.After-flag-rows → tie.Else1
 ended c = c .before .before .before
 
-abbrev flagged : tie.After-total-blocks → tie.After-overwrite
+abbrev flagged : tie.After-total-blocks → tie.After-flag-rows
 flagged c = c .before .before .before .before .before
 
 abbrev totalled : tie.After-slice-known5 → tie.After-total-blocks
@@ -34,7 +34,7 @@ module _ (start : tie.Start) where
   kept ends lowest = cond (ends && lowest) (replicate (length (start .args .counters .now)) 0) (start .args .counters .now)
 
   abbrev marked : Bool → List ℕ
-  marked ends = cond ends (overwrittenBytes (start .args .counters .now) 1 (start .args .flags .now)) (start .args .flags .now)
+  marked ends = cond ends (flaggedBytes (start .args .counters .now) 0 (start .args .flags .now)) (start .args .flags .now)
 
 module _ (c : tie.After-total-blocks) where
   abbrev entry : tie.Start
@@ -43,13 +43,13 @@ module _ (c : tie.After-total-blocks) where
   ends : entry .args .ends ≡ true
   ends = not-false (entry .args .ends) (ended (flagged c) .if1 .left)
 
-  flags-made : flagged c .overwrite .last .1 .0 ≡ marked entry (entry .args .ends)
-  flags-made = flagged c .overwrite .ensures ∙ sym (ap (marked entry) ends)
+  flags-made : flagged c .flag-rows .last .1 .1 .0 ≡ marked entry (entry .args .ends)
+  flags-made = flagged c .flag-rows .ensures ∙ sym (ap (marked entry) ends)
 
   totals-made :
-      c .total-blocks .last .1 .0 ≡ cond (entry .args .ends) (blockTotals (flagged c .overwrite .last .1 .0)) (entry .args .totals .now)
+      c .total-blocks .last .1 .0 ≡ cond (entry .args .ends) (blockTotals (flagged c .flag-rows .last .1 .1 .0)) (entry .args .totals .now)
   totals-made =
-      c .total-blocks .ensures ∙ sym (ap (λ b. cond b (blockTotals (flagged c .overwrite .last .1 .0)) (entry .args .totals .now)) ends)
+      c .total-blocks .ensures ∙ sym (ap (λ b. cond b (blockTotals (flagged c .flag-rows .last .1 .1 .0)) (entry .args .totals .now)) ends)
 
 -- within a digit
 returns : tie.Need-returns
@@ -60,14 +60,14 @@ returns c =
       (sym (ap (marked start) none), sym (ap (λ b. cond b (blockTotals (start .args .flags .now)) (start .args .totals .now)) none)),
     )
 
-overwrite-requires : tie.Need-overwrite-requires
-overwrite-requires c κs = search needs
+flag-rows-requires : tie.Need-flag-rows-requires
+flag-rows-requires c κs = search needs
 
 total-blocks-requires : tie.Need-total-blocks-requires
 total-blocks-requires c κs =
     let flagging = c .before .before .before .before in
     let start = begun (ended flagging) in
-    start .pre .totals ∙ ap blocksOf (sym (ap length (flagging .overwrite .ensures) ∙ length-tabulate (length (start .args .flags .now)) _))
+    start .pre .totals ∙ ap blocksOf (sym (ap length (flagging .flag-rows .ensures) ∙ length-tabulate (length (start .args .flags .now)) _))
 
 same-length : tie.Need-same-length
 same-length c = search needs
@@ -115,7 +115,7 @@ end-test-spec =
     tie.close
     (tie.spec
     returns
-    overwrite-requires
+    flag-rows-requires
     total-blocks-requires
     same-length
     same-length-2

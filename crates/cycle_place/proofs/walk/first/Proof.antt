@@ -18,9 +18,9 @@ use Rattle.cycle_place.proofs.walk.first.Tie as tie
 
 first-as :
     (z : ℕ) (s : Shape) → Taken s → z < s .digits → {j : ℕ} {cs : List ℕ} → j ≡ heldFrom cs 0 0 → cs ≡ matrix s
-    → nextAt z s 1 ≡ nexts.Place (placeAt 0 (s .digits - 1) j 1)
+    → nextAt z s 2 ≡ nexts.Place (placeAt 0 (s .digits - 1) j 1)
 first-as z s t h found all =
-    place-next z s t 1 _ (place-first z s t h)
+    place-next z s t 2 _ (place-first z s t h)
     ∙ ap (λ j. nexts.Place (placeAt 0 (s .digits - 1) j 1)) (sym (found ∙ ap (λ cs. heldFrom cs 0 0) all))
 
 sub-t4 : tie.Need-sub-t4

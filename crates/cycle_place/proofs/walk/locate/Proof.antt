@@ -1,4 +1,4 @@
--- `cycle_place::walk::locate` meets its contract: the lookup after no other is the opening, and every other a test, which `follow` tells the rest of.
+-- `cycle_place::walk::locate` meets its contract: the first two lookups are the openings, and every other is a test, which `follow` tells the rest of.
 -- Assumes nothing.
 use mathlib.Core.Path.{_≡_, refl, sym, ap, _∙_}
 use mathlib.Core.Bool.{Bool, true, false, cond}
@@ -28,9 +28,10 @@ sought-none true w e = let never : _≡_ {A = ℕ} 0 1 = cc in absurd (omega ari
 sought-none false w e = refl
 
 -- .. and so what a step is told
-told-test : (z : ℕ) (s : Shape) (c : ℕ) (p : Place) → 0 < c → isPlaceOf z s c p ≡ true → Test (hereAt z s c p) ≡ locatedAt z s c p
+told-test : (z : ℕ) (s : Shape) (c : ℕ) (p : Place) → 1 < c → isPlaceOf z s c p ≡ true → Test (hereAt z s c p) ≡ locatedAt z s c p
 told-test z s zero p low e = absurd (omega arith)
-told-test z s (suc c) p low e = sym (ap (λ b. cond b (toldAt z s (suc c) p) Elsewhere) e)
+told-test z s (suc zero) p low e = absurd (omega arith)
+told-test z s (suc (suc c)) p low e = sym (ap (λ b. cond b (toldAt z s (suc (suc c)) p) Elsewhere) e)
 
 -- the places of the call and of the search, each from one that follows
 abbrev begun : tie.After-locate-test → tie.Start
@@ -57,13 +58,11 @@ slice-aggregate-locate-opening c = sym (length-take-le _ _ (padded-within (c .be
 locate-opening-requires : tie.Need-locate-opening-requires
 locate-opening-requires c κs =
     let given = padded-matrix (c .before .before .before .pre) in
-    record { taken = given .taken; checks = refl; matrix = given .matrix }
+    (record { taken = given .taken; checks = refl; matrix = given .matrix }, omega arith)
 
--- the first lookup
+-- an opening
 returns : tie.Need-returns
-returns c =
-    let args = c .before .before .before .before .args in
-    c .locate-opening .ensures ∙ ap (λ count. locatedAt (args .skip) (args .shape) count (args .place)) (sym (c .before .before .if1 .taken))
+returns c = c .locate-opening .ensures
 
 locate-test-requires : tie.Need-locate-test-requires
 locate-test-requires c κs = (c .before .before .pre, omega arith)

@@ -6,7 +6,6 @@ use mathlib.Core.Bool.{Bool, true, false, cond, not, _&&_, and-eq-true-iff, fals
 use mathlib.Core.List.{List}
 use Prim.Native.Nat.{ℕ, suc, _+_, _-_, _*_, _/_, _%_, _^_, _≤_, _<_}
 use native.Mathlib.Nat.{one-mul}
-use native.Mathlib.Numerals.{add-one}
 use native.Mathlib.Omega.{arith}
 use lib.Dec.{eqb, leb, ltb}
 use lib.ListN.{length, getD, take, length-take}
@@ -26,7 +25,7 @@ use Rattle.parity.proofs.Sizes.{columns-high}
 use Rattle.schedule.specs.Index.{supportSize, rank, span, placeIndex}
 use Rattle.cycle_place.specs.Places.{isPlaceOf}
 use Rattle.cycle_place.specs.Survey.{surveyOf}
-use Rattle.cycle_place.specs.Walk.{Stands, indexOf, soughtAt}
+use Rattle.cycle_place.specs.Walk.{Stands, afterOpenings, indexOf, soughtAt}
 use Rattle.cycle_place.specs.declared.Place.{Place}
 use Rattle.cycle_place.specs.declared.columns.Survey.{Survey}
 use Rattle.cycle_place.specs.declared.walk.Sought.the-variants.{At, Elsewhere}
@@ -199,12 +198,13 @@ module _ (c : tie.Else6) where
       ap (λ n. n * shape s .radix ^ (place s .digit - skip s)) (own-span (c .before .before))
       ∙ span-down (shape s) (taken s) (place s .digit) (p .digit) (skip s) (p .unskipped)
 
-index : (c : tie.After-index-of) → let s = begun (c .before .before .before) in c .index-of .result + 1 ≡ indexOf (skip s) (shape s) (place s)
+index : (c : tie.After-index-of) → let s = begun (c .before .before .before) in c .index-of .result + 2 ≡ indexOf (skip s) (shape s) (place s)
 index c =
     let x = c .before .before .before in
     let s = begun x in
-    add-one (c .index-of .result)
-    ∙ ap suc
+    let two : c .index-of .result + 2 ≡ afterOpenings (c .index-of .result) = omega arith in
+    two
+    ∙ ap afterOpenings
     (index-as (skip s) (shape s) (place s .check) (place s .digit) (place s .column) (place s .factor) (c .index-of .result)
     (c .index-of .ensures) (c .before .scale2 .ensures ∙ reach x) (own-next (x .before .before)) (own-span (x .before .before)) (survey (c .before .before)))
 

@@ -5,7 +5,7 @@ use Prim.Native.Nat.{ℕ}
 use lib.ListN.{length}
 use borrow.Author.Needs.{needs}
 use Rattle.parity.specs.Match.{taskVector}
-use Rattle.parity.specs.Shape.{columns}
+use Rattle.parity.specs.Shape.{levels, columns}
 use Rattle.parity.specs.Questions.{firstNo}
 use Rattle.parity.specs.declared.Shape.{Shape}
 use Rattle.shape.specs.Answers.{none, firstSays}
@@ -22,7 +22,7 @@ first-told : (s : Shape) (mem : Memory) (inputs : List ℕ) → Told (firstCall 
 unfolding firstCall
 first-told s mem inputs =
     answering-told none (firstNo (arrayQuestions s (length (mem .cells)) (length (mem .lines)) (firstArguments s inputs)))
-    (firstRow (s .rows) (rowMatch (columns s) (taskVector s inputs) (mem .cells) (mem .lines)))
+    (firstRow (s .rows) (rowMatch (levels s) (columns s) (taskVector s inputs) (mem .cells) (mem .lines)))
 
 -- what the call says where its answer is known
 module _ (c : tie.After-first-match) where

@@ -1,4 +1,4 @@
--- `router::route::route_lent` meets its contract: the bottle's inputs are made in an array, and `first_lent` is lent that part of it. Assumes nothing.
+-- `router::route::route_lent` meets its contract: the bottle's inputs are made in an array, and `first_below` is lent that part of it. Assumes nothing.
 use mathlib.Core.Path.{_≡_, refl, sym, _∙_, ap, ap₂, subst}
 use mathlib.Core.Bool.{Bool, true, false, cond}
 use mathlib.Core.List.{List, _++_}
@@ -13,6 +13,7 @@ use Rattle.parity.specs.Match.{taskVector}
 use Rattle.parity.specs.Shape.{levels, columns}
 use Rattle.parity.specs.Questions.{firstNo}
 use Rattle.parity.specs.declared.Shape.{Shape}
+use Rattle.parity.proofs.Comparator.{reaches}
 use Rattle.shape.specs.Answers.{Found, row, none, rowOrNone, accepted, refused, answering, firstSays}
 use Rattle.shape.specs.Bounds.{Within}
 use Rattle.shape.specs.declared.answer.First.{First}
@@ -21,14 +22,16 @@ use Rattle.shape.proofs.Refusals.{said-number}
 use Rattle.array_memory.specs.Geometry.{rowMatch}
 use Rattle.array_memory.specs.Memory.{Memory, withArray, noMemory}
 use Rattle.array_lookup.specs.Lookups.{arrayQuestions, firstArguments, firstCall}
-use Rattle.router_ranges.specs.Ranges.{bottleInputs}
+use Rattle.array_lookup.proofs.Front.{blank, Holds, front-fits, front-sized}
+use Rattle.router_ranges.specs.Ranges.{features, bottleInputs}
+use Rattle.router_ranges.proofs.Ranges.{inputs-reach}
 use Rattle.router_questions.specs.Questions.{routeQuestions}
 use Rattle.router.specs.Routes.{nowhere, destination, routeCall}
 use Rattle.router.specs.Answers.{routedSays}
 use Rattle.router.specs.declared.answer.Routed.{Routed}
 use Rattle.router.specs.declared.answer.Routed.the-variants as routes
 use Rattle.router_questions.proofs.Asked.{RouteTaken, route-taken, route-asks}
-use Rattle.router.proofs.PairLaws.{levels-within, blank, Holds, Pairable, front-fits, front-sized, pairs-ask, pairs-held}
+use Rattle.router.proofs.PairLaws.{levels-within, Pairable, pairs-ask, pairs-held}
 use Rattle.router.proofs.route.route_lent.Statement.{statement}
 use Rattle.router.proofs.route.route_lent.Tie as tie
 
@@ -53,7 +56,7 @@ module _ (s : Shape) (mem : Memory) (inputs : List ℕ) where
   fails = firstNo (arrayQuestions s (length (mem .cells)) (length (mem .lines)) (firstArguments s inputs))
 
   abbrev matching : ℕ
-  matching = firstFrom (λ i. eqb (rowMatch (columns s) (taskVector s inputs) (mem .cells) (mem .lines) i) 1) (s .rows) 0
+  matching = firstFrom (λ i. eqb (rowMatch (levels s) (columns s) (taskVector s inputs) (mem .cells) (mem .lines) i) 1) (s .rows) 0
 
   row-below : (i : ℕ) → firstCall s mem inputs ≡ accepted (row i) → i < s .rows
   unfolding firstCall
@@ -124,10 +127,10 @@ cast-top : tie.Need-cast-top
 cast-top c = omega (arith, within (begun (c .before)))
 
 array-borrow-prefix-inputs : tie.Need-array-borrow-prefix-inputs
-array-borrow-prefix-inputs c = let start = begun (c .before) in front-fits _ _ (start .pre .sizes) _ _ (pairable start)
+array-borrow-prefix-inputs c = let start = begun (c .before) in front-fits _ (pairable start .taken)
 
 slice-aggregate-pair : tie.Need-slice-aggregate-pair
-slice-aggregate-pair c = let start = begun (c .before .before) in sym (front-sized _ _ (start .pre .sizes) _ _ (pairable start))
+slice-aggregate-pair c = let start = begun (c .before .before) in sym (front-sized _ (pairable start .taken))
 
 pair-requires : tie.Need-pair-requires
 pair-requires c κs = let start = begun (c .before .before) in pairs-ask _ _ (start .pre .sizes) _ _ (pairable start)
@@ -144,20 +147,23 @@ module _ (c : tie.After-pair) where
 array-share-prefix-inputs : tie.Need-array-share-prefix-inputs
 array-share-prefix-inputs c = held (c .before) .within
 
-slice-aggregate-first-lent : tie.Need-slice-aggregate-first-lent
-slice-aggregate-first-lent c = sym (held (c .before .before) .sized)
+slice-aggregate-first-below : tie.Need-slice-aggregate-first-below
+slice-aggregate-first-below c = sym (held (c .before .before) .sized)
 
-first-lent-requires : tie.Need-first-lent-requires
-first-lent-requires c κs =
+first-below-requires : tie.Need-first-below-requires
+first-below-requires c κs =
     let pairs = c .before .before in
     let call = start pairs in
-    record {
-      none = ap (fails (shape call) (array call noMemory)) (held pairs .part) ∙ route-asks (shape call) _ _ _ (values call) (given call);
-      sizes = call .pre .sizes;
-    }
+    let s = shape call in (
+      record {
+        none = ap (fails s (array call noMemory)) (held pairs .part) ∙ route-asks s _ _ _ (values call) (given call);
+        sizes = call .pre .sizes;
+      },
+      ap (reaches (levels s)) (held pairs .part) ∙ inputs-reach (levels s) (features s) (values call) (given call .bottle),
+    )
 
 -- once first match has answered
-module _ (c : tie.After-first-lent) where
+module _ (c : tie.After-first-below) where
   abbrev pairs : tie.After-pair
   pairs = c .before .before .before
 
@@ -168,13 +174,13 @@ module _ (c : tie.After-first-lent) where
   belts = called .args .belts .now
 
   found :
-      (known : First) → c .first-lent .result ≡ known → (mem : Memory)
+      (known : First) → c .first-below .result ≡ known → (mem : Memory)
       → firstCall (shape called) (array called mem) (bottleInputs (levels (shape called)) (values called)) ≡ firstSays known
   found known same mem =
-      ap (firstCall (shape called) (array called mem)) (sym (held pairs .part)) ∙ c .first-lent .ensures mem ∙ ap firstSays same
+      ap (firstCall (shape called) (array called mem)) (sym (held pairs .part)) ∙ c .first-below .ensures mem ∙ ap firstSays same
 
   told :
-      (known : First) → c .first-lent .result ≡ known → (mem : Memory)
+      (known : First) → c .first-below .result ≡ known → (mem : Memory)
       → routeCall (shape called) (array called mem) belts (values called) ≡ routedSays (routed belts known)
   told known same mem = route-said (shape called) (array called mem) belts (values called) known (called .pre .none) (found known same mem)
 
@@ -216,8 +222,8 @@ route-lent-spec =
     slice-aggregate-pair
     pair-requires
     array-share-prefix-inputs
-    slice-aggregate-first-lent
-    first-lent-requires
+    slice-aggregate-first-below
+    first-below-requires
     enum-known-row
     shared-slice-read-t21
     enum-told

@@ -15,10 +15,11 @@ use Rattle.array_questions.specs.Questions.{cellsQuestions, programArguments}
 use Rattle.array.specs.Calls.{rowWritten}
 use Rattle.cycle.specs.Calls.{stateOf, programCall}
 use Rattle.cycle.specs.Record.{idle}
+use Rattle.array_lookup.proofs.Front.{blank, Holds, front-fits, front-sized}
 use Rattle.router_ranges.specs.Ranges.{Ranges, rangesOf, ruleLevels}
 use Rattle.router.specs.Calls.{withBelts, ruleCall}
 use Rattle.router_questions.proofs.Asked.{RuleTaken, rule-taken, rule-programs}
-use Rattle.router.proofs.PairLaws.{levels-within, blank, Holds, Pairable, front-fits, front-sized, pairs-ask, pairs-held}
+use Rattle.router.proofs.PairLaws.{levels-within, Pairable, pairs-ask, pairs-held}
 use Rattle.router.proofs.rule.rule_lent.Statement.{statement}
 use Rattle.router.proofs.rule.rule_lent.Tie as tie
 
@@ -71,10 +72,10 @@ cast-top : tie.Need-cast-top
 cast-top c = omega (arith, within (begun (c .before)))
 
 array-borrow-prefix-levels : tie.Need-array-borrow-prefix-levels
-array-borrow-prefix-levels c = let start = begun (c .before) in front-fits _ _ (start .pre .sizes) _ _ (pairable start)
+array-borrow-prefix-levels c = let start = begun (c .before) in front-fits _ (pairable start .taken)
 
 slice-aggregate-pair : tie.Need-slice-aggregate-pair
-slice-aggregate-pair c = let start = begun (c .before .before) in sym (front-sized _ _ (start .pre .sizes) _ _ (pairable start))
+slice-aggregate-pair c = let start = begun (c .before .before) in sym (front-sized _ (pairable start .taken))
 
 pair-requires : tie.Need-pair-requires
 pair-requires c κs = let start = begun (c .before .before) in pairs-ask _ _ (start .pre .sizes) _ _ (pairable start)

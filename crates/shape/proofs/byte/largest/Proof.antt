@@ -1,11 +1,9 @@
 -- `shape::byte::largest` meets its contract: the largest so far is that of the bytes before place i. Assumes nothing.
 use mathlib.Core.Path.{_≡_, refl, _∙_, ap}
 use mathlib.Core.Logic.{⊎-elim}
-use mathlib.Core.List.{List}
-use Prim.Native.Nat.{ℕ, _+_, _-_, _≤_, _<_, max}
-use native.Mathlib.Numerals.{add-one}
+use Prim.Native.Nat.{_-_, _≤_}
 use native.Mathlib.Omega.{arith}
-use lib.ListN.{length, getD, take}
+use lib.ListN.{length, take}
 use lib.Seq.{take-all}
 use Rattle.parity.specs.Lists.{greatest}
 use Rattle.parity.proofs.Greatest.{greatest-next}
@@ -17,10 +15,6 @@ Inv-loop bytes most₀ i₀ most i = (i ≤ length bytes) × (most ≡ greatest 
 
 abbrev μ-loop : tie.MeasureT-loop
 μ-loop bytes most₀ i₀ most i = length bytes - i
-
--- one byte more
-next : (bytes : List ℕ) (i : ℕ) → i < length bytes → greatest (take (i + 1) bytes) ≡ max (greatest (take i bytes)) (getD bytes i 0)
-next bytes i h = ap (λ n. greatest (take n bytes)) (add-one i) ∙ greatest-next bytes i h
 
 loop-holds : tie.Need-loop-holds Inv-loop μ-loop
 loop-holds c = (omega arith, refl)
@@ -38,7 +32,7 @@ loop-again : tie.Need-loop-again Inv-loop μ-loop
 loop-again c =
     let bytes = c .before .before .before .before .args .bytes .now in
     let loop = c .before .before .before .loop in
-    let more = next bytes (loop .i) (omega arith) in
+    let more = greatest-next bytes (loop .i) (omega arith) in
     (omega arith, ⊎-elim (λ w. omega arith) (λ w. omega arith) (c .if1 .came))
 
 -- all bytes
