@@ -1,5 +1,4 @@
 // The comparator: the match rule, the match byte of a row, and what its match line makes of it.
-use shape::byte::wide_input;
 ghost use mathlib.Core.Path.{_≡_};
 ghost use mathlib.Core.List.{map};
 ghost use Prim.Native.Nat.{_%_, _≤_};
@@ -18,18 +17,20 @@ pub fn answers(input: u8, cell: u8) -> bool
 }
 
 // No cell answers 1 to input q, which is asked here, once in a lookup: whether every input is below q, and so a byte; then the
-// bytes are the inputs.
+// bytes are the inputs. All is of 16 bits, and no input ends the loop, so that it is compiled to vector code.
 pub fn narrow(inputs: &[u16], levels: usize, bytes: &mut [u8]) -> bool
+    requires { ⌜ levels ≤ 256 ⌝ }
     requires { ⌜ length (now inputs) ≡ length (now bytes) ⌝ }
     ensures below { λ r. ⌜ r ≡ every (λ v. ltb v levels) (was inputs) ⌝ }
     ensures narrowed { λ _. ⌜ left bytes ≡ map (λ v. v % 256) (was inputs) ⌝ }
 {
+    let limit = levels as u16;
     let mut below = true;
     let mut j: usize = 0;
     while j < inputs.len() {
-        let input = wide_input(inputs[j]);
+        let input = inputs[j];
         bytes[j] = (input % 256) as u8;
-        below = below & (input < levels);
+        below = below & (input < limit);
         j += 1;
     }
     below

@@ -54,8 +54,8 @@ wide-narrowed s t z e inputs below bytes told are =
 
 module _ (s : Shape) (t : Taken s) (inputs : List ℕ) (sized : length inputs ≡ s .width) where
   -- the part of the array that is lent for them
-  pub bytes-ask : length inputs ≡ length (take (s .width) blank)
-  bytes-ask = sized ∙ sym (front-sized s t)
+  pub bytes-ask : (z : Sizes) → z ≡ sizesOf s → (z .levels ≤ 256) × (length inputs ≡ length (take (s .width) blank))
+  bytes-ask z e = (omega (arith, ap (λ z. z .levels) e, limits s t .levelsHigh), sized ∙ sym (front-sized s t))
 
   module _ (made : List ℕ) (are : made ≡ bytesOf inputs) where
     pub bytes-held : Holds (s .width) (made ++ drop (s .width) blank) (bytesOf inputs)

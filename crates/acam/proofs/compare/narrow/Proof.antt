@@ -38,31 +38,31 @@ module _ (inputs : List ℕ) (j : ℕ) (h : j < length inputs) where
       ∙ ap (λ l. take j bytes ++ map (λ v. v % 256) l) (sym (drop-cons inputs j 0 h))
 
 abbrev Inv-loop : tie.InvT-loop
-Inv-loop inputs levels bytes₀ below₀ j₀ bytes below j =
+Inv-loop inputs levels bytes₀ limit below₀ j₀ bytes below j =
     (j ≤ length inputs) × (length bytes ≡ length inputs) × (below && belowFrom levels inputs j ≡ belowFrom levels inputs 0)
     × (take j bytes ++ bytesFrom inputs j ≡ bytesFrom inputs 0)
 
 abbrev μ-loop : tie.MeasureT-loop
-μ-loop inputs levels bytes₀ below₀ j₀ bytes below j = length inputs - j
+μ-loop inputs levels bytes₀ limit below₀ j₀ bytes below j = length inputs - j
 
 -- the call's arguments and the turn, each from a place that follows
 abbrev begun : tie.At-loop Inv-loop μ-loop → tie.Start Inv-loop μ-loop
-begun c = c .before .before .before
+begun c = c .before
 
-abbrev turned : tie.After-wide-input Inv-loop μ-loop → tie.At-loop Inv-loop μ-loop
-turned c = c .before .before .before
+abbrev turned : tie.After-shared-slice-known Inv-loop μ-loop → tie.At-loop Inv-loop μ-loop
+turned c = c .before .before
+
+cast-limit : tie.Need-cast-limit Inv-loop μ-loop
+cast-limit c = omega arith
 
 loop-holds : tie.Need-loop-holds Inv-loop μ-loop
 loop-holds c = (omega arith, omega arith, refl, refl)
 
-mul-wide-input : tie.Need-mul-wide-input Inv-loop μ-loop
-mul-wide-input c = omega arith
+mul-input : tie.Need-mul-input Inv-loop μ-loop
+mul-input c = omega arith
 
-shared-slice-read-wide-input : tie.Need-shared-slice-read-wide-input Inv-loop μ-loop
-shared-slice-read-wide-input c = omega arith
-
-wide-input-requires : tie.Need-wide-input-requires Inv-loop μ-loop
-wide-input-requires c κs = search needs
+shared-slice-read-input : tie.Need-shared-slice-read-input Inv-loop μ-loop
+shared-slice-read-input c = omega arith
 
 cast-bytes : tie.Need-cast-bytes Inv-loop μ-loop
 cast-bytes c = omega arith
@@ -83,13 +83,11 @@ loop-again c =
     let inputs = args .inputs .now in
     let rest = belowFrom (args .levels) inputs (loop .j + 1) in (
       omega arith,
-      length-set (loop .bytes) (loop .j) (c .wide-input .result % 256) ∙ loop .inv .1,
-      ap (λ v. loop .below && ltb v (args .levels) && rest) (c .wide-input .ensures)
-          ∙ and-assoc (loop .below) (ltb (getD inputs (loop .j) 0) (args .levels)) rest
+      length-set (loop .bytes) (loop .j) (getD inputs (loop .j) 0 % 256) ∙ loop .inv .1,
+      and-assoc (loop .below) (ltb (getD inputs (loop .j) 0) (args .levels)) rest
           ∙ ap (λ t. loop .below && t) (sym (below-next inputs (loop .j) (omega arith) (args .levels)))
           ∙ loop .inv .2,
-      ap (λ v. take (loop .j + 1) (set (loop .bytes) (loop .j) (v % 256)) ++ bytesFrom inputs (loop .j + 1)) (c .wide-input .ensures)
-          ∙ bytes-next inputs (loop .j) (omega arith) (loop .bytes) (loop .inv .1) ∙ loop .inv .3,
+      bytes-next inputs (loop .j) (omega arith) (loop .bytes) (loop .inv .1) ∙ loop .inv .3,
     )
 
 same-length : tie.Need-same-length Inv-loop μ-loop
@@ -114,10 +112,10 @@ narrow-spec =
     (tie.spec
     Inv-loop
     μ-loop
+    cast-limit
     loop-holds
-    mul-wide-input
-    shared-slice-read-wide-input
-    wide-input-requires
+    mul-input
+    shared-slice-read-input
     cast-bytes
     slice-write-bytes
     add-j

@@ -29,7 +29,7 @@ narrow-requires : tie.Need-narrow-requires
 narrow-requires c κs =
     let start = begun (c .before) in
     let p = given start in
-    bytes-ask (start .args .shape) (p .cells .taken) (start .args .inputs .now) (p .inputs)
+    bytes-ask (start .args .shape) (p .cells .taken) (start .args .inputs .now) (p .inputs) (start .args .sizes) (start .pre .sizes)
 
 -- once the bytes are made
 module _ (c : tie.After-narrow) where
