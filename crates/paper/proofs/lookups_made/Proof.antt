@@ -45,9 +45,6 @@ run-cycle-requires c κs = search needs
 returns-2 : tie.Need-returns-2
 returns-2 c = search needs
 
-sub-result : tie.Need-sub-result
-sub-result c = search needs
-
 -- without the openings
 returns-3 : tie.Need-returns-3
 returns-3 c = search needs
@@ -66,5 +63,4 @@ lookups-made-spec =
     slice-aggregate-run-cycle-6
     run-cycle-requires
     returns-2
-    sub-result
     returns-3)
