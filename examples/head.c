@@ -1,5 +1,5 @@
 // A fitter's year on a small sorting head: a rule book in ranges, bottles, a threshold that drifts, the cycle that
-// finds it, a row in raw levels that is seen before it goes live, a dead match line, and the shutdown.
+// finds it, a row in raw levels that is seen before it goes live, a dead and a shorted match line, and the shutdown.
 // `examples/run_head` builds and runs it.
 #include "jorivelune_head.h"
 
@@ -85,6 +85,15 @@ static void replace(struct jorivelune_head *head, size_t row, const uint8_t leve
     must("commit", jorivelune_head_commit(head, row, finished, COLUMNS));
 }
 
+// Of the flagged rows the first one with a shorted line: it matches an input of q, here 8, which no cell answers.
+static void show_shorted(const struct jorivelune_head *head)
+{
+    const uint16_t inputs[WIDTH] = {8};
+    size_t row;
+    must("first match", jorivelune_head_first_match(head, inputs, WIDTH, &row));
+    printf("row %zu is shorted\n", row);
+}
+
 // The shutdown: the rule of every flagged row is written anew, and a last whole cycle flags none.
 static void shut_down(struct jorivelune_head *head)
 {
@@ -128,13 +137,17 @@ int main(void)
     replace(&head, 4, levels);
     show_rule(&head, 4);
 
-    printf("October: row 0's match line dies, and row 4 drifts\n");
+    printf("October: row 0's match line dies, row 1's is shorted, and row 4 drifts\n");
     must("line", jorivelune_head_line(&head, 0, 1));
+    must("line", jorivelune_head_line(&head, 1, 2));
     must("drift", jorivelune_head_drift(&head, 4, 0, 0));
+    route(&head, bottle);
     cycle(&head, 0);
+    show_shorted(&head);
 
-    printf("December: the line is mended, and the head shuts down\n");
+    printf("December: the lines are mended, and the head shuts down\n");
     must("line", jorivelune_head_line(&head, 0, 0));
+    must("line", jorivelune_head_line(&head, 1, 0));
     shut_down(&head);
     show_rule(&head, 4);
     return 0;

@@ -12,7 +12,7 @@
 //   buffer    bytes          written by                     a byte is
 //   cells     m x n          clear, rule, program, commit,  a level below q; in each row k rule cells, r check cells
 //                            drift
-//   lines     m              clear, line                    the row's match line: 0 is sound, any other dead
+//   lines     m              clear, line                    the row's match line: 0 is sound, 2 shorted, any other dead
 //   counters  m              clear, start, steps            what the open check row has counted, modulo rho
 //   flags     m              clear, start, steps            1 where the row is flagged, else 0
 //   totals    (m + 63) / 64  clear, start, steps            the flagged rows of a block of 64 rows
@@ -22,16 +22,18 @@
 //   highs     f              the caller, rule_at            the highest value of a feature that the rule holds
 //   values    f              the caller                     a bottle's value of a feature, below q
 //   levels    k              the caller                     a level below q: the rule cells of a row
-//   inputs    k              the caller                     an input below q: what a lookup feeds the rule columns
+//   inputs    k of 16 bits   the caller                     a 16-bit number, at most q: what a lookup feeds the rule
+//                                                           columns; q is more than any cell answers
 //   finished  n              ask, then the caller's         a cell of a row that is ready to be committed
 //   out       k              read                           a rule cell of a row
 //
-// "Steps" are jorivelune_step, jorivelune_steps and jorivelune_run. Every buffer comes with its length. Any length may
-// be given: question 6 refuses a wrong one. No call but jorivelune_rule writes a belt, so a clear keeps them.
+// "Steps" are jorivelune_step, jorivelune_steps and jorivelune_run. Every buffer comes with its length in bytes, the
+// inputs with their number. Any length may be given: question 6 refuses a wrong one. No call but jorivelune_rule writes
+// a belt, so a clear keeps them.
 //
 // What a caller owes, since no call can ask for it:
 // - each pointer is valid for the length that is given with it, for reading, and for writing where it is not const; it
-//   is not NULL, also where the length is 0 (the calls of jorivelune_head.h take NULL);
+//   is not NULL, also where the length is 0 (the calls of jorivelune_head.h take NULL); that of the inputs is aligned;
 // - no two buffers of one call overlap, nor does the record or an answer lie in a buffer;
 // - the record and the pointers for answers (size_t *, bool *, the uint8_t *belt of a route and of a rule that is read)
 //   are valid, writable and aligned, no two the same.
@@ -81,7 +83,7 @@ enum jorivelune_phase {
 struct jorivelune_record {
     size_t phase;  // enum jorivelune_phase
     size_t check;  // the place of the next lookup: check row, digit, column and factor,
-    size_t digit;  // all four 0 where an opening is next, and where none is to come
+    size_t digit;  // all four 0 where an opening is next, count 0 or 1, and where none is to come
     size_t column;
     size_t factor;
     size_t count;  // the steps made since the start
@@ -94,7 +96,7 @@ static_assert(sizeof(struct jorivelune_shape) == 5 * sizeof(size_t), "the librar
 // ---- before any other call
 
 // What a caller has to know to lend the buffers: q, r, n, m x n, the blocks of 64 rows, and the steps of a cycle that
-// skips so many low digits, its opening among them. Questions 1 to 5, then 15.
+// skips so many low digits, its two openings among them. Questions 1 to 5, then 15.
 uint8_t jorivelune_sizes(struct jorivelune_shape shape, size_t skip,
                          size_t *levels, size_t *checks, size_t *columns,
                          size_t *cells, size_t *blocks, size_t *steps);
@@ -127,8 +129,9 @@ uint8_t jorivelune_start(struct jorivelune_record *record, struct jorivelune_sha
                          uint8_t *flags, size_t flags_length,
                          uint8_t *totals, size_t totals_length);
 
-// The next lookup of the cycle. A cycle's first step is its opening: it feeds 0 to every column and flags the rows that
-// do not match; it counts nothing.
+// The next lookup of the cycle. A cycle's first two steps are its openings, which count nothing. The first feeds 0 to
+// every column and flags the rows that do not match: those with a dead line. The second feeds q to column 0 and 0 to
+// all others, whatever the cycle skips, and flags the rows that match: those with a shorted line.
 uint8_t jorivelune_step(struct jorivelune_record *record, struct jorivelune_shape shape,
                         const uint8_t *cells, size_t cells_length,
                         const uint8_t *lines, size_t lines_length,
@@ -170,7 +173,8 @@ uint8_t jorivelune_rule(struct jorivelune_record *record, struct jorivelune_shap
 
 // The first row whose rule holds the bottle goes to found, m where none does, and its belt to belt, 0 where none does.
 // It is the row of jorivelune_first_match with x in column 2i and q - 1 - x in column 2i + 1 for the value x of feature
-// i. Questions 1 to 5, 18, 6, then 8.
+// i, so a row with a shorted line takes every bottle that comes to it. Questions 1 to 5, 18, 6, then 8 where a value is
+// not below q.
 uint8_t jorivelune_route(struct jorivelune_shape shape, const uint8_t *cells, size_t cells_length,
                          const uint8_t *lines, size_t lines_length,
                          const uint8_t *belts, size_t belts_length,
@@ -195,7 +199,8 @@ uint8_t jorivelune_panel(struct jorivelune_shape shape,
 
 // ---- calls without the record
 
-// One row's line byte becomes 0, sound, or 1, dead, and nothing else changes. A dead row matches nothing.
+// One row's line byte becomes 0, sound, 1, dead, or 2, shorted, and nothing else changes. A dead row matches nothing,
+// and a shorted one everything.
 uint8_t jorivelune_line(struct jorivelune_shape shape, uint8_t *lines, size_t lines_length,
                         size_t row, uint8_t byte);
 
@@ -213,17 +218,18 @@ uint8_t jorivelune_ask(struct jorivelune_shape shape, const uint8_t *cells, size
                        size_t row, const uint8_t *levels, size_t levels_length,
                        uint8_t *finished, size_t finished_length, size_t *changed);
 
-// A task lookup: a row matches where every input is at most its cell, and its line is sound. The number of rows that
-// match goes to count.
+// A task lookup: a row with a sound line matches where every input is below q and at most its cell, one with a shorted
+// line always, and one with a dead line never. The number of rows that match goes to count. Question 8 takes an input
+// of q, and refuses one above.
 uint8_t jorivelune_lookup(struct jorivelune_shape shape, const uint8_t *cells, size_t cells_length,
                           const uint8_t *lines, size_t lines_length,
-                          const uint8_t *inputs, size_t inputs_length,
+                          const uint16_t *inputs, size_t inputs_length,
                           uint8_t *matches, size_t matches_length, size_t *count);
 
 // The first row that matches goes to found, m where none does.
 uint8_t jorivelune_first_match(struct jorivelune_shape shape, const uint8_t *cells, size_t cells_length,
                                const uint8_t *lines, size_t lines_length,
-                               const uint8_t *inputs, size_t inputs_length, size_t *found);
+                               const uint16_t *inputs, size_t inputs_length, size_t *found);
 
 // Whether the row is sound, its check cells those of its rule cells, goes to holds.
 uint8_t jorivelune_sound(struct jorivelune_shape shape, const uint8_t *cells, size_t cells_length,

@@ -7,9 +7,9 @@
 //   struct jorivelune_shape shape = {2, 3, 2, 50, 512};
 //   if (jorivelune_head_lend(&head, shape, memory, sizeof memory) == JORIVELUNE_TAKEN) ..
 //
-// The caller's own buffers (lows, highs, values, levels, finished, inputs, out) come with their lengths, and question 6
-// refuses a wrong one. NULL stands for no bytes at all, so 6 refuses it; for an answer it says that the answer is not
-// wanted.
+// The caller's own buffers (lows, highs, values, levels, finished, out) come with their lengths, the 16-bit inputs with
+// their number, and question 6 refuses a wrong one. NULL stands for no bytes at all, so 6 refuses it; for an answer it
+// says that the answer is not wanted.
 #ifndef JORIVELUNE_HEAD_H
 #define JORIVELUNE_HEAD_H
 
@@ -62,7 +62,7 @@ static inline const char *jorivelune_words(uint8_t answer)
     }
 }
 
-// q, r, n, m x n, blocks and the steps of a cycle that skips so many low digits: 1 to 5, then 15.
+// q, r, n, m x n, blocks and the steps of a cycle that skips so many low digits, openings and all: 1 to 5, then 15.
 static inline uint8_t jorivelune_head_sizes(struct jorivelune_shape shape, size_t skip,
                                             struct jorivelune_told_sizes *sizes)
 {
@@ -136,20 +136,27 @@ static inline const uint8_t *jorivelune_given(const uint8_t *bytes)
     return bytes == NULL ? &none : bytes;
 }
 
+static inline const uint16_t *jorivelune_given_inputs(const uint16_t *inputs)
+{
+    static const uint16_t none = 0;
+    return inputs == NULL ? &none : inputs;
+}
+
 static inline uint8_t *jorivelune_lent(uint8_t *bytes)
 {
     static uint8_t none = 0;
     return bytes == NULL ? &none : bytes;
 }
 
-static inline size_t jorivelune_given_length(const uint8_t *bytes, size_t length)
+static inline size_t jorivelune_given_length(const void *buffer, size_t length)
 {
-    return bytes == NULL ? 0 : length;
+    return buffer == NULL ? 0 : length;
 }
 
 // A head's part, and a caller's buffer, as the pointer and the length that a call takes.
 #define JORIVELUNE_PART(part) jorivelune_lent((part).bytes), jorivelune_given_length((part).bytes, (part).length)
 #define JORIVELUNE_GIVEN(buffer) jorivelune_given(buffer), jorivelune_given_length(buffer, buffer##_length)
+#define JORIVELUNE_INPUTS(buffer) jorivelune_given_inputs(buffer), jorivelune_given_length(buffer, buffer##_length)
 #define JORIVELUNE_LENT(buffer) jorivelune_lent(buffer), jorivelune_given_length(buffer, buffer##_length)
 #define JORIVELUNE_ROW_PARTS(head) \
     JORIVELUNE_PART((head)->counters), JORIVELUNE_PART((head)->flags), JORIVELUNE_PART((head)->totals)
@@ -263,20 +270,21 @@ static inline uint8_t jorivelune_head_ask(const struct jorivelune_head *head, si
 }
 
 // The match bytes go to the head's own.
-static inline uint8_t jorivelune_head_lookup(struct jorivelune_head *head, const uint8_t *inputs, size_t inputs_length,
+static inline uint8_t jorivelune_head_lookup(struct jorivelune_head *head, const uint16_t *inputs, size_t inputs_length,
                                              size_t *count)
 {
     size_t unread;
     return jorivelune_lookup(head->shape, JORIVELUNE_PART(head->cells), JORIVELUNE_PART(head->lines),
-                             JORIVELUNE_GIVEN(inputs), JORIVELUNE_PART(head->matches), count == NULL ? &unread : count);
+                             JORIVELUNE_INPUTS(inputs), JORIVELUNE_PART(head->matches),
+                             count == NULL ? &unread : count);
 }
 
 static inline uint8_t jorivelune_head_first_match(const struct jorivelune_head *head,
-                                                  const uint8_t *inputs, size_t inputs_length, size_t *found)
+                                                  const uint16_t *inputs, size_t inputs_length, size_t *found)
 {
     size_t unread;
     return jorivelune_first_match(head->shape, JORIVELUNE_PART(head->cells), JORIVELUNE_PART(head->lines),
-                                  JORIVELUNE_GIVEN(inputs), found == NULL ? &unread : found);
+                                  JORIVELUNE_INPUTS(inputs), found == NULL ? &unread : found);
 }
 
 static inline uint8_t jorivelune_head_sound(const struct jorivelune_head *head, size_t row, bool *holds)
@@ -287,6 +295,7 @@ static inline uint8_t jorivelune_head_sound(const struct jorivelune_head *head, 
 
 #undef JORIVELUNE_PART
 #undef JORIVELUNE_GIVEN
+#undef JORIVELUNE_INPUTS
 #undef JORIVELUNE_LENT
 #undef JORIVELUNE_ROW_PARTS
 

@@ -1,8 +1,9 @@
 //! The calls on an array outside its detection cycle.
 
 use crate::code::{encode, is_codeword};
-use crate::comparator::{answers, is_sound, match_byte};
+use crate::comparator::{answers, is_shorted, is_sound, match_beyond, match_byte};
 use crate::cycle::Cycle;
+use crate::matrix::MAX_WIDTH;
 use crate::shape::{Layout, Refusal, Shape};
 use crate::state::State;
 
@@ -143,8 +144,8 @@ pub fn drift(
     Ok(())
 }
 
-/// Sets the line byte of a row: 0 for a sound line, 1 for a dead one. Nothing
-/// else changes.
+/// Sets the line byte of a row: 0 for a sound line, 1 for a dead one, 2 for a
+/// shorted one. Nothing else changes.
 pub fn line(shape: Shape, lines: &mut [u8], row: usize, byte: u8) -> Result<(), Refusal> {
     let layout = shape.layout()?;
     layout.ask_length(lines, layout.rows())?;
@@ -155,51 +156,87 @@ pub fn line(shape: Shape, lines: &mut [u8], row: usize, byte: u8) -> Result<(), 
 }
 
 /// A task lookup of k inputs, the check columns fed 0: writes one match byte
-/// per row and gives the number of matches.
+/// per row and gives the number of matches. An input may be q, to which no cell
+/// answers 1.
 pub fn lookup(
     shape: Shape,
     cells: &[u8],
     lines: &[u8],
-    inputs: &[u8],
+    inputs: &[u16],
     matches: &mut [u8],
 ) -> Result<usize, Refusal> {
     let layout = ask_cells(shape, cells)?;
     layout.ask_length(lines, layout.rows())?;
     layout.ask_length(inputs, layout.width())?;
     layout.ask_length(matches, layout.rows())?;
-    layout.ask_levels(inputs)?;
-    let mut found = 0;
-    for ((row, &line), matched) in rows(&layout, cells).zip(lines).zip(matches) {
-        *matched = match_byte(line, row, inputs);
-        found += usize::from(*matched);
+    layout.ask_inputs(inputs)?;
+    match levels_of(&layout, inputs) {
+        Some(levels) => match_levels(&layout, cells, lines, &levels[..layout.width()], matches),
+        None => match_beyond(lines, matches),
     }
-    Ok(found)
+    Ok(matches.iter().map(|&matched| usize::from(matched)).sum())
+}
+
+/// Writes the match bytes of all rows under k levels.
+fn match_levels(layout: &Layout, cells: &[u8], lines: &[u8], levels: &[u8], matches: &mut [u8]) {
+    let rows = rows(layout, cells).zip(lines);
+    for ((row, &line), matched) in rows.zip(matches) {
+        *matched = match_byte(line, row, levels);
+    }
 }
 
 /// The number of the first row that matches k inputs, fed as in a task lookup.
-/// A row with a dead line is passed over, none of its cells looked at.
 pub fn first_match(
     shape: Shape,
     cells: &[u8],
     lines: &[u8],
-    inputs: &[u8],
+    inputs: &[u16],
 ) -> Result<Option<usize>, Refusal> {
     let layout = ask_cells(shape, cells)?;
     layout.ask_length(lines, layout.rows())?;
     layout.ask_length(inputs, layout.width())?;
-    layout.ask_levels(inputs)?;
-    'rows: for (number, (row, &line)) in rows(&layout, cells).zip(lines).enumerate() {
+    layout.ask_inputs(inputs)?;
+    Ok(match levels_of(&layout, inputs) {
+        Some(levels) => first_row(&layout, cells, lines, &levels[..layout.width()]),
+        None => lines.iter().position(|&line| is_shorted(line)),
+    })
+}
+
+/// The first row that matches k levels. Cells are looked at only where the line is
+/// sound: a shorted row is the answer, and a dead one is passed over.
+pub(crate) fn first_row(
+    layout: &Layout,
+    cells: &[u8],
+    lines: &[u8],
+    levels: &[u8],
+) -> Option<usize> {
+    'rows: for (number, (row, &line)) in rows(layout, cells).zip(lines).enumerate() {
         if !is_sound(line) {
+            if is_shorted(line) {
+                return Some(number);
+            }
             continue 'rows;
         }
-        for (&cell, &input) in row.iter().zip(inputs) {
-            if !answers(cell, input) {
+        for (&cell, &level) in row.iter().zip(levels) {
+            if !answers(cell, level) {
                 continue 'rows;
             }
         }
-        return Ok(Some(number));
+        return Some(number);
     }
-    Ok(None)
+    None
+}
+
+/// The inputs as levels, or none where one of them is q. The places after them
+/// hold 0 and are not used.
+fn levels_of(layout: &Layout, inputs: &[u16]) -> Option<[u8; MAX_WIDTH]> {
+    let mut levels = [0; MAX_WIDTH];
+    let mut beyond = false;
+    for (level, &input) in levels.iter_mut().zip(inputs) {
+        beyond |= usize::from(input) == layout.levels();
+        *level = input as u8;
+    }
+    (!beyond).then_some(levels)
 }
 
 /// Whether a row is sound, whatever its line.

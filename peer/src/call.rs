@@ -100,7 +100,7 @@ calls! {
     /// A task lookup.
     Lookup {
         /// The inputs.
-        inputs: Vec<u8>,
+        inputs: Vec<u16>,
         /// The match bytes.
         matches: B,
     },
@@ -133,7 +133,7 @@ calls! {
     /// Find the first row that matches.
     FirstMatch {
         /// The inputs.
-        inputs: Vec<u8>,
+        inputs: Vec<u16>,
     },
     /// Ask whether a row is sound.
     Sound {

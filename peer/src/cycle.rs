@@ -1,18 +1,22 @@
 //! The detection cycle: its record, start, step, several steps, and one whole
 //! cycle.
 //!
-//! A cycle opens with the all-zero vector. Every cell answers 1 to it, so the
-//! rows that do not match are those with a dead line: they are flagged, and
-//! nothing is counted. The vectors after it cannot show such a row, since its
-//! counter stays 0.
+//! A cycle has two openings. The first is the all-zero vector: every cell answers
+//! 1 to it, so the rows that do not match are those with a dead line. The second
+//! is q in column 0 and 0 elsewhere: no cell answers 1 to q, so the rows that
+//! match are those with a shorted line. Both flag these rows and count nothing.
+//! The test vectors after them may miss such a row: the counter of a dead one
+//! stays 0, and that of a shorted one comes to 0 where the size of each J(ℓ) is a
+//! multiple of ρ.
 //!
-//! Schedule of these: checks ℓ upwards; within it digits s from the highest down
-//! to z; within it the columns j of J(ℓ) upwards; within it the factors a from 1
-//! below q / ρ^s that ρ does not divide, upwards. The vector is a × ρ^s in
-//! column j and 0 elsewhere. The z low digits are skipped: a cycle with z = 0
-//! looks at all of them, a coarse one sees only what differs above.
+//! Schedule of the test vectors: checks ℓ upwards; within it digits s from the
+//! highest down to z; within it the columns j of J(ℓ) upwards; within it the
+//! factors a from 1 below q / ρ^s that ρ does not divide, upwards. The vector is
+//! a × ρ^s in column j and 0 elsewhere. The z low digits are skipped: a cycle with
+//! z = 0 looks at all of them, a coarse one sees only what differs above. The
+//! openings are the same for every z.
 
-use crate::comparator::match_byte;
+use crate::comparator::{match_beyond, match_byte};
 use crate::matrix::ones_in_check;
 use crate::panel::count_flags;
 use crate::shape::{Layout, Refusal, Shape};
@@ -23,14 +27,25 @@ use crate::state::State;
 pub enum Phase {
     /// No cycle since the array was cleared or a row written.
     Idle,
-    /// The opening or a vector is still to come.
+    /// An opening or a test vector is still to come.
     Open,
     /// All of them have been looked up.
     Complete,
 }
 
+/// What the next step of a cycle looks up, by the steps made.
+enum Next {
+    /// The first opening.
+    Zeros,
+    /// The second opening.
+    Beyond,
+    /// A test vector.
+    Test,
+}
+
 /// The cycle record. Check, digit, column and factor are those of the next test
-/// vector; they are 0 where the opening is next, and where no lookup is to come.
+/// vector; they are 0 where an opening is next, and where no lookup is to come. The
+/// count tells the two openings apart.
 #[derive(Clone, Copy, Debug, PartialEq, Eq, Hash)]
 pub struct Cycle {
     /// Where the cycle is.
@@ -43,7 +58,7 @@ pub struct Cycle {
     pub column: usize,
     /// a, the factor.
     pub factor: usize,
-    /// The number of steps made, the opening among them.
+    /// The number of steps made, the openings among them.
     pub count: usize,
     /// z, the number of low digits that the cycle skips; 0 while it is idle.
     pub skip: usize,
@@ -61,7 +76,7 @@ impl Cycle {
         skip: 0,
     };
 
-    /// The record that a start leaves, with so many low digits to skip: the
+    /// The record that a start leaves, with so many low digits to skip: the first
     /// opening is next.
     pub const fn open(skip: usize) -> Cycle {
         Cycle {
@@ -82,20 +97,30 @@ impl Cycle {
     }
 
     /// Question 9: whether a start and `count` accepted steps leave this
-    /// record, with the opening or a vector still to come.
+    /// record, with an opening or a test vector still to come.
     fn awaits_step(&self, layout: &Layout) -> bool {
-        match self.count.checked_sub(1) {
-            None => *self == Cycle::open(self.skip) && self.skip < layout.digits(),
+        match self.count.checked_sub(Layout::OPENINGS) {
+            None => {
+                let opening = Cycle {
+                    count: self.count,
+                    ..Cycle::open(self.skip)
+                };
+                *self == opening && self.skip < layout.digits()
+            }
             Some(vectors) => self.phase == Phase::Open && self.rank(layout) == Some(vectors),
         }
     }
 
-    /// Whether the opening is next, in a record that awaits a step.
-    fn is_opening(&self) -> bool {
-        self.count == 0
+    /// What comes next, in a record that awaits a step.
+    fn looks_up(&self) -> Next {
+        match self.count {
+            0 => Next::Zeros,
+            1 => Next::Beyond,
+            _ => Next::Test,
+        }
     }
 
-    /// How many vectors come before this record's one, or none where the
+    /// How many test vectors come before this record's one, or none where the
     /// schedule of its z has no such vector.
     fn rank(&self, layout: &Layout) -> Option<usize> {
         let digits = self.skip..layout.digits();
@@ -123,7 +148,7 @@ impl Cycle {
     }
 
     /// The input of the record's column, at most q − 1. All others are 0, and in
-    /// an opening, whose factor is 0, this one too.
+    /// the first opening, whose factor is 0, this one too.
     fn input(&self, layout: &Layout) -> u8 {
         (self.factor * layout.radix().pow(self.digit as u32)) as u8
     }
@@ -144,8 +169,10 @@ impl Cycle {
         let mut next = self;
         next.count += 1;
         let highest = layout.digits() - 1;
-        if self.is_opening() {
-            return next.at_digit(layout, 0, highest);
+        match self.looks_up() {
+            Next::Zeros => return next,
+            Next::Beyond => return next.at_digit(layout, 0, highest),
+            Next::Test => {}
         }
         if self.factor + 1 < self.bound(layout) {
             next.factor = next_factor(self.factor, layout.radix());
@@ -241,11 +268,11 @@ fn ask_start(shape: Shape, skip: usize, state: &State<&mut [u8]>) -> Result<(), 
 /// Makes the next lookup of the cycle, writes the match bytes, and moves the
 /// record on.
 ///
-/// The opening flags the rows that do not match and leaves the counters. Any
-/// other lookup adds each match byte to its row's counter mod the radix; at the
-/// end of a digit the rows whose counter is not 0 are flagged, and at the end of
-/// a check the counters return to 0. Where rows are flagged, the flagged ones of
-/// each block are counted.
+/// The first opening flags the rows that do not match, and the second those that
+/// do; both leave the counters. A test vector adds each match byte to its row's
+/// counter mod the radix; at the end of a digit the rows whose counter is not 0
+/// are flagged, and at the end of a check the counters return to 0. Where rows are
+/// flagged, the flagged ones of each block are counted.
 pub fn step(
     shape: Shape,
     state: State<&mut [u8]>,
@@ -293,12 +320,21 @@ fn take_steps(
 
 /// What an accepted step does; gives the record that it leaves.
 fn take_step(layout: &Layout, state: State<&mut [u8]>, matches: &mut [u8], cycle: Cycle) -> Cycle {
-    look_up(layout, &cycle, state.cells, state.lines, matches);
-    if cycle.is_opening() {
-        let unmatched = matches.iter().map(|&matched| matched == 0);
-        raise_flags(unmatched, state.flags, state.totals);
-    } else {
-        count_vector(layout, &cycle, state, matches);
+    match cycle.looks_up() {
+        Next::Zeros => {
+            feed(layout, &cycle, state.cells, state.lines, matches);
+            let unmatched = matches.iter().map(|&matched| matched == 0);
+            raise_flags(unmatched, state.flags, state.totals);
+        }
+        Next::Beyond => {
+            match_beyond(state.lines, matches);
+            let matched = matches.iter().map(|&matched| matched != 0);
+            raise_flags(matched, state.flags, state.totals);
+        }
+        Next::Test => {
+            feed(layout, &cycle, state.cells, state.lines, matches);
+            count_vector(layout, &cycle, state, matches);
+        }
     }
     cycle.next(layout)
 }
@@ -354,9 +390,10 @@ fn ask_run(
     ask_lent(shape, state, matches)
 }
 
-/// Feeds the record's vector. All columns but one are fed 0 and answer 1, so
-/// the match byte of a row is that of its line and its cell in that one column.
-fn look_up(layout: &Layout, cycle: &Cycle, cells: &[u8], lines: &[u8], matches: &mut [u8]) {
+/// Feeds the record's vector, which is no second opening. All columns but one are
+/// fed 0 and answer 1, so the match byte of a row is that of its line and its cell
+/// in that one column.
+fn feed(layout: &Layout, cycle: &Cycle, cells: &[u8], lines: &[u8], matches: &mut [u8]) {
     let input = cycle.input(layout);
     let rows = cells.chunks_exact(layout.columns());
     for ((row, &line), matched) in rows.zip(lines).zip(matches) {
@@ -364,7 +401,7 @@ fn look_up(layout: &Layout, cycle: &Cycle, cells: &[u8], lines: &[u8], matches: 
     }
 }
 
-/// What the match bytes of a vector bring.
+/// What the match bytes of a test vector bring.
 fn count_vector(layout: &Layout, cycle: &Cycle, state: State<&mut [u8]>, matches: &[u8]) {
     let counters = state.counters;
     add_matches(layout, counters, matches);

@@ -4,9 +4,9 @@
 //! The array keeps its state in memory lent by the caller: cells (row after
 //! row), one line byte, one counter and one flag byte per row, and one byte per
 //! block of 64 rows, the total of its flagged ones; a cycle record stands beside
-//! it. A row whose line byte is not 0 is dead and matches nothing. The router has
-//! one belt byte per row of its own. Every call asks its questions first; a
-//! refused call changes nothing.
+//! it. A row whose line byte is 2 is shorted and matches everything, one with any
+//! other but 0 is dead and matches nothing. The router has one belt byte per row of
+//! its own. Every call asks its questions first; a refused call changes nothing.
 //!
 //! From the bottom up:
 //! - [`shape`]: the shape of an array, questions 1 to 5, the refusals;

@@ -153,8 +153,11 @@ impl Layout {
             .sum()
     }
 
-    /// The number of vectors in a detection cycle that skips so many low digits,
-    /// its opening left out.
+    /// The number of openings of a detection cycle.
+    pub const OPENINGS: usize = 2;
+
+    /// The number of test vectors in a detection cycle that skips so many low
+    /// digits: its openings are left out.
     ///
     /// # Panics
     ///
@@ -163,13 +166,14 @@ impl Layout {
         (self.levels_above(skip) - 1) * self.weight()
     }
 
-    /// The number of steps of such a cycle: the opening, and one for each vector.
+    /// The number of steps of such a cycle: one for each opening, and one for each
+    /// test vector.
     ///
     /// # Panics
     ///
     /// If there are not more digits than that.
     pub fn steps(&self, skip: usize) -> usize {
-        1 + self.lookups(skip)
+        Self::OPENINGS + self.lookups(skip)
     }
 }
 

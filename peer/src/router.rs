@@ -2,14 +2,14 @@
 //!
 //! A rule has f = k / 2 features, each with a low and a high, and a belt. Feature
 //! i fills column 2i with high and column 2i + 1 with q − 1 − low; a bottle feeds
-//! them its value x and q − 1 − x. So the row of a rule matches exactly the bottles
-//! whose every value is from the low to the high. A cleared row has lows of q − 1
-//! and highs of 0, and holds no bottle.
+//! them its value x and q − 1 − x. So the row of a rule with a sound line matches
+//! exactly the bottles whose every value is from the low to the high. A cleared row
+//! has lows of q − 1 and highs of 0, and holds no bottle.
 //!
 //! The belts are lent bytes of the router's own, one per row. No other call is lent
 //! them, and writing a rule alone changes one.
 
-use crate::array::{first_match, program, row_of};
+use crate::array::{first_row, program, row_of};
 use crate::cycle::Cycle;
 use crate::matrix::MAX_WIDTH;
 use crate::shape::{Layout, Refusal, Shape};
@@ -85,7 +85,7 @@ fn ask_rule(
 }
 
 /// The first row that matches a bottle of f values, and its belt. The row is first
-/// match's, whatever was written there.
+/// match's, whatever was written there: a shorted one matches every bottle.
 pub fn route(
     shape: Shape,
     cells: &[u8],
@@ -98,7 +98,7 @@ pub fn route(
     layout.ask_length(values, layout.features())?;
     layout.ask_levels(values)?;
     let inputs = columns(&layout, values, values);
-    let found = first_match(shape, cells, lines, &inputs[..layout.width()])?;
+    let found = first_row(&layout, cells, lines, &inputs[..layout.width()]);
     Ok(found.map(|row| Route {
         row,
         belt: belts[row],
@@ -138,8 +138,8 @@ fn ask_belts(shape: Shape, cells: &[u8], belts: &[u8]) -> Result<Layout, Refusal
 }
 
 /// What ranges bring into the k rule columns: the levels of a rule, and the inputs
-/// of a bottle, whose lows and highs are its values. The places after them hold 0
-/// and are not used.
+/// of a bottle, whose lows and highs are its values; all of them are below q. The
+/// places after them hold 0 and are not used.
 fn columns(layout: &Layout, lows: &[u8], highs: &[u8]) -> [u8; MAX_WIDTH] {
     let mut columns = [0; MAX_WIDTH];
     let ranges = lows.iter().zip(highs);

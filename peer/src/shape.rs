@@ -23,7 +23,8 @@ pub enum Refusal {
     Length = 6,
     /// The row or the column lies outside the array.
     Place = 7,
-    /// A given level or input is not below the number of levels.
+    /// A given level or value is not below the number of levels, or an input is
+    /// above it.
     Level = 8,
     /// The record is not one that awaits a step on this shape.
     Record = 9,
@@ -39,7 +40,7 @@ pub enum Refusal {
     JobContents = 14,
     /// A cycle is to skip as many low digits as there are, or more.
     Skip = 15,
-    /// A line byte to be set is above 1.
+    /// A line byte to be set is above 2.
     Line = 16,
     /// A row to be committed is not sound.
     Unsound = 17,
@@ -101,7 +102,7 @@ impl Shape {
     /// The rows of a block; the last block of an array may have fewer.
     pub const BLOCK: usize = 64;
     /// The largest line byte that a call sets.
-    pub const MAX_LINE: u8 = 1;
+    pub const MAX_LINE: u8 = 2;
 
     /// The shape with ρ, b, τ, k and m, in this order.
     pub const fn new(
@@ -272,7 +273,7 @@ impl Layout {
     }
 
     /// Question 6 for one buffer.
-    pub(crate) fn ask_length(&self, buffer: &[u8], length: usize) -> Result<(), Refusal> {
+    pub(crate) fn ask_length<T>(&self, buffer: &[T], length: usize) -> Result<(), Refusal> {
         if buffer.len() == length {
             Ok(())
         } else {
@@ -298,9 +299,21 @@ impl Layout {
         }
     }
 
-    /// Question 8 for levels or inputs.
+    /// Question 8 for levels, or for the values of a bottle.
     pub(crate) fn ask_levels(&self, levels: &[u8]) -> Result<(), Refusal> {
         if levels.iter().all(|&level| usize::from(level) < self.levels) {
+            Ok(())
+        } else {
+            Err(Refusal::Level)
+        }
+    }
+
+    /// Question 8 for the inputs of a lookup, which may be q.
+    pub(crate) fn ask_inputs(&self, inputs: &[u16]) -> Result<(), Refusal> {
+        if inputs
+            .iter()
+            .all(|&input| usize::from(input) <= self.levels)
+        {
             Ok(())
         } else {
             Err(Refusal::Level)

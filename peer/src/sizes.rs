@@ -16,7 +16,7 @@ pub struct Sizes {
     pub cells: usize,
     /// ⌈m / 64⌉, the number of blocks of rows.
     pub blocks: usize,
-    /// The steps of a cycle that skips so many low digits, its opening among them.
+    /// The steps of a cycle that skips so many low digits, its openings among them.
     pub steps: usize,
 }
 

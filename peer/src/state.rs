@@ -19,7 +19,8 @@ impl<B: DerefMut<Target = [u8]>> Bytes for B {}
 pub struct State<B> {
     /// The cells, row after row.
     pub cells: B,
-    /// One line byte per row: 0 for a sound match line, any other for a dead one.
+    /// One line byte per row: 0 for a sound match line, 2 for a shorted one, any
+    /// other for a dead one.
     pub lines: B,
     /// One counter per row.
     pub counters: B,

@@ -464,9 +464,10 @@ struct Between {
     /// The record at the ask and the one at the commit were both those of an open
     /// cycle.
     open: usize,
-    /// The row to be written had drifted, and its line was dead.
+    /// The row to be written had drifted, and its line was dead or shorted.
     drifted: usize,
     dead: usize,
+    shorted: usize,
     /// The row was another than the one asked for.
     moved: usize,
     /// By the commit a row became another.
@@ -549,7 +550,8 @@ impl Between {
         let is_open = log.cycle == LoggedCycle::Open;
         self.open += usize::from(was_open && is_open);
         self.drifted += usize::from(log.standing[row] != log.written[row]);
-        self.dead += usize::from(log.lines[row] != 0);
+        self.dead += usize::from(log.lines[row] == 1);
+        self.shorted += usize::from(log.lines[row] == 2);
         self.moved += usize::from(row != asked_for);
         self.changed += usize::from(log.standing[row] != cells);
     }
@@ -568,9 +570,11 @@ fn a_commit_of_what_an_ask_wrote_is_one_programming_in_its_place() {
         open,
         drifted,
         dead,
+        shorted,
         moved,
         changed,
     } = seen;
-    assert!(open > 300 && drifted > 300 && dead > 100);
+    assert!(open > 300 && drifted > 300);
+    assert!(dead > 50 && shorted > 50);
     assert!(moved > 500 && changed > 500);
 }

@@ -1,9 +1,10 @@
 //! The calls with arbitrary arguments against the definitions: answer, record
 //! and every lent byte.
 
-use peer::testing::draw::{self, some_bytes, some_length, some_number, Draw};
+use peer::testing::draw::{self, some_bytes, some_length, some_number, Draw, Right};
+use peer::testing::inputs::{any_inputs, as_inputs, spoil_input, Inputs};
 use peer::testing::lent::Own;
-use peer::testing::lines::{any_lines, Lines, FOREIGN};
+use peer::testing::lines::{any_lines, settable, Lines, FOREIGN};
 use peer::testing::naive::calls::make;
 use peer::testing::naive::panel::blocks;
 use peer::testing::naive::spec::{questions, Spec};
@@ -16,7 +17,7 @@ use peer::testing::shapes::{any_shape, small_shape};
 use peer::testing::skips::Skips;
 use peer::testing::steps::{left, some_most, Steps};
 use peer::testing::tally::Tally;
-use peer::{match_byte, Answer, Array, Cycle, Layout, Name, Rule, Shape, State};
+use peer::{match_byte, Answer, Array, Call, Cycle, Layout, Name, Rule, Shape, State};
 
 /// The sizes that arguments are drawn for.
 struct Sizes {
@@ -64,6 +65,7 @@ struct Given {
     level: u8,
     line: u8,
     levels: Vec<u8>,
+    inputs: Vec<u16>,
     finished: Vec<u8>,
     rule: Rule<Vec<u8>>,
     values: Vec<u8>,
@@ -98,8 +100,8 @@ impl Draw for Given {
         self.line
     }
 
-    fn inputs(&mut self) -> Vec<u8> {
-        self.levels.clone()
+    fn inputs(&mut self) -> Vec<u16> {
+        self.inputs.clone()
     }
 
     fn rule(&mut self) -> Rule<Vec<u8>> {
@@ -162,15 +164,26 @@ fn given(random: &mut Random, array: &Array, sizes: &Sizes) -> Given {
         line: if random.one_in(5) {
             random.byte()
         } else {
-            random.level(2)
+            settable(random)
         },
         levels: random.levels(bound, length),
+        inputs: some_inputs(random, sizes),
         finished: some_finished(random, shape, sizes),
         rule: some_rule(random, shape),
         values: some_values(random, shape, &array.state.cells),
         skip: some_number(random, sizes.digits),
         most: some_most(random, left(shape, cycle), ROW_STEPS / sizes.rows),
     }
+}
+
+/// Mostly as many inputs as there are rule columns, now and then one above q.
+fn some_inputs(random: &mut Random, sizes: &Sizes) -> Vec<u16> {
+    let mut inputs = any_inputs(random, sizes.levels, sizes.width);
+    inputs.resize(some_length(random, inputs.len()), 0);
+    if random.one_in(10) {
+        spoil_input(random, sizes.levels, &mut inputs);
+    }
+    inputs
 }
 
 /// Mostly as many line bytes as there are rows, of every kind.
@@ -262,8 +275,8 @@ fn some_rows(random: &mut Random, spec: &Spec) -> Vec<u8> {
     cells
 }
 
-/// A record of a cycle of any z, its opening and its last places often. Long
-/// schedules are not written out; the opening serves.
+/// A record of a cycle of any z, its openings and its last places often. Long
+/// schedules are not written out; the first opening serves.
 fn some_record(random: &mut Random, spec: &Spec) -> Cycle {
     let skip = random.below(spec.shape.digits);
     let steps = spec.steps(skip);
@@ -273,7 +286,7 @@ fn some_record(random: &mut Random, spec: &Spec) -> Cycle {
     let count = match random.below(7) {
         0 => steps,
         1 => steps - 1,
-        2 => 0,
+        2 | 3 => random.below(2),
         _ => random.below(steps),
     };
     spec.schedule(skip).record(count)
@@ -291,13 +304,14 @@ fn some_change(random: &mut Random, record: Cycle, sizes: &Sizes) -> Cycle {
     }
 }
 
-/// What the calls were answered, what they did with skipped digits, what lines
-/// they were lent, and what was seen of several steps and of belt rules.
+/// What the calls were answered, what they did with skipped digits, what lines and
+/// inputs they were given, and what was seen of several steps and of belt rules.
 #[derive(Debug, Default)]
 struct Seen {
     tally: Tally,
     skips: Skips,
     lines: Lines,
+    inputs: Inputs,
     steps: Steps,
     rules: Rules,
 }
@@ -334,6 +348,7 @@ fn compare(random: &mut Random, shape: Shape, name: Name, seen: &mut Seen) {
         ..
     } = &before.0.state;
     seen.lines.add(name, answer, cycle, ours.cycle, lines);
+    seen.inputs.add(shape, &call, answer, cells, lines);
     seen.steps.add(shape, &call, answer, cycle, counters);
     seen.rules.add(shape, &call, answer, cycle, cells, lines);
     if matches!(name, Name::Step | Name::Steps) {
@@ -363,9 +378,10 @@ fn the_calls_do_what_the_definitions_say() {
     println!("{} calls: {seen:?}", seen.tally.calls());
     seen.tally.assert_complete();
     seen.skips.assert_each(8);
-    seen.lines.assert_each(8);
+    seen.lines.assert_each(2);
+    seen.inputs.assert_each(20);
     seen.steps.assert_each(5);
-    seen.rules.assert_each(20);
+    seen.rules.assert_each(8);
 }
 
 /// How many rows the steps of one call look at, at most.
@@ -376,8 +392,9 @@ fn is_long(shape: Shape) -> bool {
     questions(shape).is_ok_and(|spec| spec.steps(0) * shape.rows > ROW_STEPS)
 }
 
-/// The rule of a match line on all pairs of a cell and an input: in a row with a
-/// sound line, and in one with a dead line of any byte.
+/// The rule of a match line on all pairs of a cell and an input that is a level: in
+/// a row with a sound line, in a shorted one, and in one with a dead line of any
+/// byte.
 #[test]
 fn a_cell_answers_when_the_input_is_at_most_the_cell() {
     for cell in 0..=255 {
@@ -386,30 +403,140 @@ fn a_cell_answers_when_the_input_is_at_most_the_cell() {
             assert_eq!(match_byte(0, &[cell], &[input]), wanted);
             assert_eq!(match_byte(0, &[255, cell, 0], &[255, input, 0]), wanted);
             assert_eq!(match_byte(0, &[cell, 0, 0], &[input]), wanted);
+            assert_eq!(match_byte(2, &[cell], &[input]), 1);
             for line in FOREIGN.into_iter().chain([1]) {
                 assert_eq!(match_byte(line, &[cell], &[input]), 0);
             }
         }
     }
     for line in 0..=255 {
-        let wanted = u8::from(line == 0);
+        let wanted = u8::from(line == 0 || line == 2);
         assert_eq!(match_byte(line, &[0, 255], &[0, 255]), wanted);
         assert_eq!(match_byte(line, &[7], &[]), wanted);
     }
 }
 
+/// One row of one rule cell, with every byte in it: inputs up to q are taken, and q
+/// is answered by no cell, those of q and more among them. An input above q is
+/// refused, and with it one that is so in another column.
+#[test]
+fn no_cell_answers_to_q() {
+    for (radix, digits) in [(2, 1), (2, 3), (15, 2), (255, 1), (2, 8), (16, 2)] {
+        let shape = Shape::new(radix, digits, 1, 1, 1);
+        let levels = shape.layout().unwrap().levels() as u16;
+        for (cell, line) in (0..=255).flat_map(|cell| [0, 1, 2, 3].map(|line| (cell, line))) {
+            for input in (0..=levels + 1).chain([512, u16::MAX]) {
+                let mut matches = [7];
+                let count = peer::lookup(shape, &[cell, 255], &[line], &[input], &mut matches);
+                let first = peer::first_match(shape, &[cell, 255], &[line], &[input]);
+                let answers = input < levels && input <= cell.into();
+                let matched = line == 2 || line == 0 && answers;
+                if input > levels {
+                    assert_eq!(count.map_err(u8::from), Err(8));
+                    assert_eq!(first.map_err(u8::from), Err(8));
+                    assert_eq!(matches, [7]);
+                } else {
+                    assert_eq!(count, Ok(matched.into()), "{shape} {cell} {line} {input}");
+                    assert_eq!(first, Ok(matched.then_some(0)));
+                    assert_eq!(matches, [matched.into()]);
+                }
+            }
+        }
+    }
+}
+
+/// Puts a byte in a call, in the place of a level, a low, a high or a value.
+type Put = fn(&mut Call<Own>, u8);
+
+/// The calls that are given such bytes.
+const PUTS: [(Name, Put); 8] = [
+    (Name::Program, put_level),
+    (Name::Ask, put_level),
+    (Name::Commit, put_level),
+    (Name::Route, put_level),
+    (Name::Commit, |call, byte| {
+        *call.levels_mut().unwrap().last_mut().unwrap() = byte;
+    }),
+    (Name::Drift, |call, byte| *call.level_mut().unwrap() = byte),
+    (Name::Rule, |call, byte| {
+        call.rule_mut().unwrap().lows[1] = byte
+    }),
+    (Name::Rule, |call, byte| {
+        call.rule_mut().unwrap().highs[0] = byte
+    }),
+];
+
+fn put_level(call: &mut Call<Own>, byte: u8) {
+    call.levels_mut().unwrap()[1] = byte;
+}
+
+/// q is an input alone: as a level, a low, a high or a value it is refused with 8,
+/// where it is a byte.
+#[test]
+fn q_is_no_level_and_no_value() {
+    let random = &mut settings::random(14);
+    for (radix, digits) in [(2, 1), (2, 3), (3, 2), (15, 2), (254, 1), (255, 1)] {
+        let shape = Shape::new(radix, digits, 1, 4, 2);
+        let layout = &shape.layout().unwrap();
+        for (name, put) in PUTS {
+            let mut call = draw::call(name, &mut Right { random, layout });
+            put(&mut call, layout.levels() as u8);
+            let mut call = call.map(|own| vec![0; own.length(layout)]);
+            let answer = Array::fresh(shape).unwrap().make(&mut call);
+            assert_eq!(answer, Answer::Refused(8), "{call:?} on {shape}");
+        }
+    }
+}
+
+/// At the widest shapes an input of q in each column by itself, with all others 0
+/// and every cell at its most: no row with a sound line matches. One above q is
+/// refused in each column.
+#[test]
+fn q_counts_in_every_column() {
+    for (radix, digits, errors, width) in [(255, 1, 1, 254), (2, 8, 2, 247), (11, 2, 3, 120)] {
+        let shape = Shape::new(radix, digits, errors, width, 3);
+        let layout = shape.layout().unwrap();
+        let levels = layout.levels() as u16;
+        for (cell, column) in [layout.highest(), 255]
+            .into_iter()
+            .flat_map(|cell| (0..width).map(move |column| (cell, column)))
+        {
+            let cells = vec![cell; layout.cells()];
+            let lines = [0, 2, 0];
+            for (input, wanted) in [
+                (levels - 1, Ok((3, Some(0)))),
+                (levels, Ok((1, Some(1)))),
+                (levels + 1, Err(8)),
+            ] {
+                let mut inputs = vec![0; width];
+                inputs[column] = input;
+                let count = peer::lookup(shape, &cells, &lines, &inputs, &mut [7; 3]);
+                let first = peer::first_match(shape, &cells, &lines, &inputs);
+                let both = count.and_then(|count| Ok((count, first?)));
+                assert_eq!(both.map_err(u8::from), wanted, "{shape} {column} {input}");
+            }
+        }
+    }
+}
+
 /// First match and task lookup agree, and both ways out are seen; so are dead
-/// lines of rows whose cells match, before the first match and without one.
+/// lines of rows whose cells match, before the first match and without one, and
+/// shorted lines of rows whose cells do not, before the first match and without
+/// one.
 #[test]
 fn first_match_is_the_first_one_of_the_match_bytes() {
     let mut random = settings::random(12);
     let (mut some, mut none, mut later, mut lost) = (0, 0, 0, 0);
-    for _ in 0..5000 {
+    let (mut sooner, mut won) = (0, 0);
+    for _ in 0..10_000 {
         let shape = small_shape(&mut random);
         let layout = shape.layout().unwrap();
         let cells = random.levels(layout.levels(), layout.cells());
         let lines = any_lines(&mut random, shape.rows);
-        let inputs = random.levels(layout.levels().min(3), shape.width);
+        let inputs = match random.below(4) {
+            0 => any_inputs(&mut random, layout.levels(), shape.width),
+            _ => as_inputs(&random.levels(layout.levels().min(3), shape.width)),
+        };
         let look_up = |lines: &[u8]| {
             let mut matches = vec![9; shape.rows];
             let count = peer::lookup(shape, &cells, lines, &inputs, &mut matches).unwrap();
@@ -422,16 +549,26 @@ fn first_match_is_the_first_one_of_the_match_bytes() {
         let (cells_match, earlier) = look_up(&vec![0; shape.rows]);
         let (matches, first) = look_up(&lines);
         for row in 0..shape.rows {
-            let wanted = if lines[row] == 0 { cells_match[row] } else { 0 };
+            let wanted = match lines[row] {
+                0 => cells_match[row],
+                2 => 1,
+                _ => 0,
+            };
             assert_eq!(matches[row], wanted);
         }
         match first {
             Some(_) => some += 1,
             None => none += 1,
         }
-        later += usize::from(first.is_some() && first != earlier);
-        lost += usize::from(first.is_none() && earlier.is_some());
+        match (earlier, first) {
+            (Some(earlier), Some(first)) if first > earlier => later += 1,
+            (Some(earlier), Some(first)) if first < earlier => sooner += 1,
+            (Some(_), None) => lost += 1,
+            (None, Some(_)) => won += 1,
+            _ => {}
+        }
     }
     assert!(some > 500 && none > 500, "{some} {none}");
     assert!(later > 100 && lost > 100, "{later} {lost}");
+    assert!(sooner > 100 && won > 100, "{sooner} {won}");
 }

@@ -184,25 +184,27 @@ fn a_refused_start_leaves_an_open_cycle() {
     }
 }
 
-/// The vectors of a whole cycle after its opening: check, digit, column and
+/// The vectors of a whole cycle after its openings: check, digit, column and
 /// factor.
 fn vectors(shape: Shape, skip: usize) -> Vec<[usize; 4]> {
     let mut array = Array::fresh(shape).unwrap();
     let mut matches = vec![0; shape.rows];
     let mut vectors = Vec::new();
     assert_eq!(array.start(skip), Answer::Done);
-    assert_eq!(array.step(&mut matches), Answer::Done);
+    for _ in 0..2 {
+        assert_eq!(array.step(&mut matches), Answer::Done);
+    }
     while array.cycle.phase == Phase::Open {
         let now = array.cycle;
         vectors.push([now.check, now.digit, now.column, now.factor]);
         assert_eq!(array.step(&mut matches), Answer::Done);
     }
-    assert_eq!(array.cycle, complete(1 + vectors.len(), skip));
+    assert_eq!(array.cycle, complete(2 + vectors.len(), skip));
     vectors
 }
 
 /// A cycle has the vectors of the whole one whose digit is not skipped, in the
-/// same order, and so (q / ρ^z − 1) × W of them besides the opening. All radices
+/// same order, and so (q / ρ^z − 1) × W of them besides the openings. All radices
 /// and digits.
 #[test]
 fn a_coarse_cycle_leaves_out_the_vectors_of_low_digits() {

@@ -1,7 +1,7 @@
 //! The step against the schedule as nested loops with full lookups, and the
 //! records that a step takes.
 
-use peer::testing::lines::{any_lines, beside_opening};
+use peer::testing::lines::{any_lines, beside_openings};
 use peer::testing::naive::calls::step_with;
 use peer::testing::naive::schedule::Schedule;
 use peer::testing::naive::spec::{questions, Spec};
@@ -172,7 +172,7 @@ fn steps_on_many_rows() {
         let schedule = spec.schedule(skip);
         let last = schedule.steps() - 1;
         let mut ours = Stepped::drawn(&mut random, &spec);
-        for count in [0, 1, random.below(last + 1), last] {
+        for count in [0, 1, 2, random.below(last + 1), last] {
             ours.array.cycle = schedule.record(count);
             let mut plain = ours.clone();
             assert_eq!(ours.step(), Answer::Done);
@@ -262,29 +262,31 @@ fn a_step_takes_the_records_of_the_schedules_and_no_others() {
     }
 }
 
-/// The record that a start leaves has place and count 0 and any z below b. What
-/// stands beside it is refused.
+/// The records of the openings have place 0, count 0 or 1 and any z below b. What
+/// stands beside them is refused.
 #[test]
-fn a_step_takes_an_opening_and_no_record_beside_it() {
+fn a_step_takes_the_openings_and_no_record_beside_them() {
     let mut random = settings::random(31);
     for _ in 0..300 {
         let spec = questions(small_shape(&mut random)).unwrap();
         let fresh = Stepped::drawn(&mut random, &spec);
         for skip in 0..spec.shape.digits {
-            let opening = Cycle {
+            let opening = |count| Cycle {
                 phase: Phase::Open,
                 check: 0,
                 digit: 0,
                 column: 0,
                 factor: 0,
-                count: 0,
+                count,
                 skip,
             };
-            assert_eq!(Cycle::open(skip), opening);
-            let mut ours = fresh.with(opening);
-            assert_eq!(ours.step(), Answer::Done);
-            assert_eq!(ours.array.cycle, spec.schedule(skip).record(1));
-            for beside in beside_opening(&spec, skip) {
+            assert_eq!(Cycle::open(skip), opening(0));
+            for count in [0, 1] {
+                let mut ours = fresh.with(opening(count));
+                assert_eq!(ours.step(), Answer::Done);
+                assert_eq!(ours.array.cycle, spec.schedule(skip).record(count + 1));
+            }
+            for beside in beside_openings(&spec, skip) {
                 let mut ours = fresh.with(beside);
                 assert_eq!(ours.step(), REFUSED, "{beside:?}");
                 assert_eq!(ours, fresh.with(beside));
@@ -293,8 +295,36 @@ fn a_step_takes_an_opening_and_no_record_beside_it() {
     }
 }
 
+/// Records without a place, of every phase, z and count: such of an open cycle with
+/// count 0 or 1 and a z below b are taken, and no others.
+#[test]
+fn the_count_alone_tells_the_openings_apart() {
+    let mut random = settings::random(37);
+    for _ in 0..100 {
+        let spec = questions(small_shape(&mut random)).unwrap();
+        let digits = spec.shape.digits;
+        let schedules: Vec<Schedule> = spec.schedules().collect();
+        let fresh = Stepped::drawn(&mut random, &spec);
+        let mut answers = Answers::default();
+        for phase in [Phase::Idle, Phase::Open, Phase::Complete] {
+            for skip in (0..digits).chain(too_many(digits)) {
+                for count in (0..spec.steps(0) + 3).chain([256, 257, 1 << 32, usize::MAX]) {
+                    let cycle = Cycle {
+                        phase,
+                        count,
+                        skip,
+                        ..Cycle::IDLE
+                    };
+                    answers.compare(&schedules, &fresh, cycle);
+                }
+            }
+        }
+        assert_eq!(answers.taken, 2 * digits);
+    }
+}
+
 /// The z of a record is changed in the middle of a cycle. The new one is taken
-/// only where a start with it leaves the same place and count: at the opening,
+/// only where a start with it leaves the same place and count: at the openings,
 /// and in the first check, down to the greater z.
 #[test]
 fn a_step_with_another_skip_in_its_record() {
@@ -312,7 +342,7 @@ fn a_step_with_another_skip_in_its_record() {
                 for skip in others.chain(too_many(digits)) {
                     let before = answers.taken;
                     answers.compare(&schedules, &fresh, Cycle { skip, ..cycle });
-                    let same_place = count == 0 || cycle.check == 0 && cycle.digit >= skip;
+                    let same_place = count < 2 || cycle.check == 0 && cycle.digit >= skip;
                     let alike = skip < digits && same_place;
                     assert_eq!(answers.taken > before, alike, "{cycle:?} {skip}");
                 }

@@ -23,6 +23,8 @@ struct Verdicts {
     /// Rows with a dead line: whose forms do not differ above the skipped digits,
     /// differ there in at most τ cells, and in more.
     dead: [usize; 3],
+    /// The same of rows with a shorted line.
+    shorted: [usize; 3],
     /// Rows with a sound line whose two forms are equal.
     clean: usize,
     /// Such whose forms differ, but not above the skipped digits.
@@ -53,7 +55,7 @@ struct Seen {
     committed: usize,
     ruled: usize,
     /// Verdicts after a cycle that ended by a call of several steps, and such calls
-    /// that left a cycle open which they found before its opening.
+    /// that left a cycle open which they found before its openings or between them.
     by_several: usize,
     begun_by_several: usize,
     /// What was seen of asks and commits.
@@ -141,9 +143,11 @@ impl Verdicts {
     fn count(&mut self, spec: &Spec, row: Row, skip: usize, flag: u8) {
         let errors = spec.shape.errors;
         let in_all = row.differing(spec, 0);
-        match row.differing(spec, skip) {
-            0 if row.is_dead() => self.dead[0] += 1,
-            above if row.is_dead() => self.dead[1 + usize::from(above > errors)] += 1,
+        let above = row.differing(spec, skip);
+        let case = usize::from(above > 0) + usize::from(above > errors);
+        match above {
+            _ if row.line == 2 => self.shorted[case] += 1,
+            _ if !row.has_sound_line() => self.dead[case] += 1,
             0 if in_all == 0 => self.clean += 1,
             0 => self.low += 1,
             above if above > errors => {
@@ -177,7 +181,7 @@ fn run(shape: Shape, calls: Vec<Call<Vec<u8>>>, seen: &mut Seen) {
         check(&log, &array, seen);
         let ends = was_open && log.cycle == LoggedCycle::Ended;
         let several = call.name() == Name::Steps;
-        let begun = was_open && before.count == 0 && log.count > 0 && !ends;
+        let begun = was_open && before.count < 2 && log.count > before.count && !ends;
         seen.begun_by_several += usize::from(several && begun);
         match (ends, has_verdict(&log)) {
             (true, true) => {
@@ -215,7 +219,8 @@ fn demand_3_holds_on_random_lists() {
         assert!(verdicts.cycles > 5000);
         assert!(verdicts.clean > 5000);
         assert!(verdicts.changed[1..].iter().all(|&rows| rows > 50));
-        assert!(verdicts.dead.iter().all(|&rows| rows > 100));
+        assert!(verdicts.dead.iter().all(|&rows| rows > 50));
+        assert!(verdicts.shorted.iter().all(|&rows| rows > 50));
         assert!(verdicts.beyond > 100);
         assert!(verdicts.missed > 0);
     }

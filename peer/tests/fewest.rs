@@ -299,7 +299,7 @@ fn no_choice_has_a_smaller_weight_or_fewer_lookups() {
         let surplus = claim.surplus(&choice);
         assert_eq!(surplus.map(|surplus| ours + surplus), Ok(theirs));
         for skip in 0..layout.digits() {
-            let steps = 1 + lookups(&layout, skip, ours);
+            let steps = 2 + lookups(&layout, skip, ours);
             assert_eq!(layout.lookups(skip), lookups(&layout, skip, ours));
             assert_eq!(layout.steps(skip), steps);
             assert_eq!(sizes(layout.shape(), skip).unwrap().steps, steps);
@@ -311,7 +311,7 @@ fn no_choice_has_a_smaller_weight_or_fewer_lookups() {
     seen.assert_each(4, 100);
 }
 
-/// Cycles that are made count the opening and as many lookups as our ones give.
+/// Cycles that are made count two openings and as many lookups as our ones give.
 #[test]
 fn cycles_make_as_many_lookups_as_our_ones_give() {
     let mut random = settings::random(66);
@@ -329,7 +329,7 @@ fn cycles_make_as_many_lookups_as_our_ones_give() {
             let matches = vec![0; shape.rows];
             let answer = array.make(&mut Call::Run { skip, matches });
             assert_eq!(answer, Answer::Done);
-            assert_eq!(array.cycle.count, 1 + lookups(&layout, skip, weight));
+            assert_eq!(array.cycle.count, 2 + lookups(&layout, skip, weight));
             seen.add((shape.errors, skip > 0));
         }
     }

@@ -116,6 +116,9 @@ fn another_width_is_found_in_each_text() {
     finds(Text::Header, "uint16_t input,", "uint8_t input,", words);
     let words = "inputs: const uint16_t * and inputs: const uint8_t *";
     finds(Text::Bindings, "*const u16", "*const u8", words);
+    finds(Text::Header, "const uint16_t *", "const uint8_t *", words);
+    let words = "inputs: const uint8_t * and inputs: const uint16_t *";
+    finds(Text::Calls(1), "inputs: &[u16]", "inputs: &[u8]", words);
     finds(
         Text::Header,
         "bool *holds",

@@ -20,7 +20,7 @@ fn bytes(text: &str) -> Vec<u8> {
 }
 
 const EXAMPLE: &str = "01 00000012 02 03 01 03 0002 050201 000000 0001 0001 02 04";
-const EXAMPLE_REPORT: &str = "levels 8 columns 4 lookups 29\nrow 0 ok\nrow 1 flagged\n";
+const EXAMPLE_REPORT: &str = "levels 8 columns 4 lookups 30\nrow 0 ok\nrow 1 flagged\n";
 
 fn refused(number: u8) -> Vec<u8> {
     format!("refused {number}\n").into_bytes()
@@ -115,7 +115,7 @@ fn a_job_of_the_largest_size() {
     assert_eq!(bytes.len(), 32_768);
     assert_eq!(
         job(&bytes),
-        b"levels 2 columns 4 lookups 5\nrow 0 flagged\n"
+        b"levels 2 columns 4 lookups 6\nrow 0 flagged\n"
     );
     bytes.push(0);
     assert_eq!(job(&bytes), refused(10));
@@ -127,7 +127,7 @@ fn a_job_with_the_most_cells() {
     let shape = Shape::new(2, 2, 1, 3, 4096);
     let fields = JobFields::new(shape, vec![3; 3 * 4096], Vec::new());
     let report = String::from_utf8(job(&fields.bytes())).unwrap();
-    assert!(report.starts_with("levels 4 columns 4 lookups 13\nrow 0 ok\n"));
+    assert!(report.starts_with("levels 4 columns 4 lookups 14\nrow 0 ok\n"));
     assert!(report.ends_with("\nrow 4095 ok\n"));
     assert_eq!(report.lines().count(), 4097);
     for (rows, too_many) in [(3276, false), (3277, true)] {

@@ -58,14 +58,14 @@ fn m6_check_cells_and_weight_of_one_binary_digit() {
     assert_eq!(layout.weight(), 7);
 }
 
-/// The opening is a step, and none of these lookups.
+/// The openings are two steps, and none of these lookups.
 #[test]
 fn m7_weights_and_lookups_of_fifty_columns() {
     for (errors, weight, lookups) in [(1, 51, 357), (2, 156, 1092), (3, 187, 1309)] {
         let layout = layout(2, 3, errors, 50);
         assert_eq!(layout.weight(), weight);
         assert_eq!(layout.lookups(0), lookups);
-        assert_eq!(layout.steps(0), lookups + 1);
+        assert_eq!(layout.steps(0), lookups + 2);
     }
 }
 

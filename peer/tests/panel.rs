@@ -76,6 +76,32 @@ fn totals_where_every_row_is_flagged() {
     }
 }
 
+/// Lines of every kind in each block: the first opening flags and counts the dead
+/// ones, and the second the shorted ones besides.
+#[test]
+fn the_openings_count_the_rows_that_they_flag() {
+    for rows in BLOCK_EDGES {
+        let mut array = Array::fresh(narrow(rows)).unwrap();
+        let line = |row: usize| [1, 0, 2, 0, 255, 2, 0][row % 7];
+        array.state.lines = (0..rows).map(line).collect();
+        assert_eq!(array.start(0), Answer::Done);
+        for openings in [1, 2] {
+            assert_eq!(array.step(&mut vec![7; rows]), Answer::Done);
+            let flagged = |row: usize| match line(row) {
+                0 => false,
+                2 => openings == 2,
+                _ => true,
+            };
+            let flags: Vec<u8> = (0..rows).map(|row| flagged(row).into()).collect();
+            assert_eq!(array.state.flags, flags, "{rows}");
+            assert_eq!(array.state.totals, counts(&flags), "{rows}");
+            let total = flags.iter().filter(|&&flag| flag == 1).count();
+            let answer = array.make(&mut Call::<Vec<u8>>::Panel);
+            assert_eq!(answer, Answer::Panel(told(total, Some(0), 1)));
+        }
+    }
+}
+
 /// Makes a call with totals of a wrong length. Where it is lent them, it is
 /// refused and changes nothing; else it is taken and leaves them.
 fn check_length(random: &mut Random, shape: Shape, name: Name, length: usize) {
@@ -121,11 +147,11 @@ fn clear_and_start_write_zeros_over_any_totals() {
 }
 
 /// All rows and lines are sound, so that no flag is raised, and before each step
-/// any bytes come into flags and totals. The opening and the last step of a
-/// digit count the flags that are not 0 and leave them; every other step leaves
-/// the totals too.
+/// any bytes come into flags and totals. Each opening and the last step of a digit
+/// count the flags that are not 0 and leave them; every other step leaves the
+/// totals too.
 #[test]
-fn a_step_counts_at_the_opening_and_the_end_of_a_digit_and_nowhere_else() {
+fn a_step_counts_at_the_openings_and_the_end_of_a_digit_and_nowhere_else() {
     let mut random = settings::random(24);
     let (mut counted, mut left) = (0, 0);
     for rows in BLOCK_EDGES.repeat(5) {

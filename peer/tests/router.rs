@@ -455,6 +455,34 @@ fn a_route_is_first_match_and_a_belt_on_any_bytes() {
     assert!(some > 500 && none > 500, "{some} {none}");
 }
 
+/// On any bytes: a bottle goes to a shorted row at the latest, with the belt that
+/// stands there.
+#[test]
+fn a_bottle_goes_to_a_shorted_row_at_the_latest() {
+    let mut random = settings::random(81);
+    let (mut to_it, mut before_it) = (0, 0);
+    for make in BOTH.repeat(3_000) {
+        let shape = even(small_shape(&mut random));
+        let mut array = mixed_array(&mut random, shape);
+        let shorted = random.below(shape.rows);
+        array.state.lines[..shorted].fill(random.pick(&[0, 1, 3]));
+        array.state.lines[shorted] = 2;
+        let values = any_bottle(&mut random, &shape.layout().unwrap());
+        let Some(found) = route(make, &mut array, &values) else {
+            panic!("no row on {shape}");
+        };
+        assert_eq!(found.belt, array.belts[found.row]);
+        match found.row {
+            row if row == shorted => to_it += 1,
+            row => {
+                assert!(row < shorted && array.state.lines[row] == 0, "{shape}");
+                before_it += 1;
+            }
+        }
+    }
+    assert!(to_it > 200 && before_it > 200, "{to_it} {before_it}");
+}
+
 /// Every byte in the second column of a feature beside bytes in the first: the low
 /// is the least value that the cell lets pass, and the high the byte itself.
 #[test]
@@ -609,14 +637,21 @@ struct Seen {
     claimed: [usize; 5],
     /// Those of them with a row among the first ones that drifted away and back.
     and_back: usize,
+    /// Bottles that went to a row before the first shorted one, and such that went
+    /// there, where all rows before it are as asked.
+    before_shorted: usize,
+    to_shorted: usize,
     /// Bottles of which nothing is claimed, since up to their row a cell has
-    /// changed, a line is dead, or a row holds no rule.
+    /// changed, a line is dead or shorted, or a row holds no rule.
     changed: usize,
     dead: usize,
+    shorted: usize,
     plain: usize,
-    /// Rules that are read as they were written, and such with a dead line.
+    /// Rules that are read as they were written, and such with a dead or a shorted
+    /// line.
     read: usize,
     read_dead: usize,
+    read_shorted: usize,
     /// Rules that were refused.
     refused: usize,
 }
@@ -687,6 +722,7 @@ impl Logged {
     /// or none where no rule does. And so it is where all rows up to that rule are
     /// as asked.
     fn check_route(&self, values: &[u8], found: Option<Route>, seen: &mut Seen) {
+        self.check_shorted(values, found, seen);
         let rows = self.array.shape.rows;
         let wanted = self.first_holding(values);
         let up_to = |route: Option<Route>| 0..route.map_or(rows, |route| route.row + 1);
@@ -696,8 +732,28 @@ impl Logged {
             self.count_claimed(found, up_to(found).collect(), seen);
         } else {
             seen.changed += usize::from(up_to(found).any(|row| !self.stands(row)));
-            seen.dead += usize::from(up_to(found).any(|row| self.log.lines[row] != 0));
+            seen.dead += usize::from(up_to(found).any(|row| self.log.lines[row] == 1));
+            seen.shorted += usize::from(up_to(found).any(|row| self.log.lines[row] == 2));
             seen.plain += usize::from(up_to(found).any(|row| self.log.last[row] == Last::Plain));
+        }
+    }
+
+    /// A shorted row takes every bottle that no row before it does, with the belt
+    /// that stands there: looked at where all rows before the first one are as
+    /// asked.
+    fn check_shorted(&self, values: &[u8], found: Option<Route>, seen: &mut Seen) {
+        let Some(row) = self.log.lines.iter().position(|&line| line == 2) else {
+            return;
+        };
+        if (0..row).all(|row| self.is_as_asked(row)) {
+            let belt = self.log.belts[row];
+            let earlier = self.first_holding(values).filter(|route| route.row < row);
+            let wanted = earlier.unwrap_or(Route { row, belt });
+            assert_eq!(found, Some(wanted), "{values:?} {:?}", self.log);
+            match earlier {
+                Some(_) => seen.before_shorted += 1,
+                None => seen.to_shorted += 1,
+            }
         }
     }
 
@@ -722,9 +778,10 @@ impl Logged {
         for row in 0..self.array.shape.rows {
             if let (Last::Rule(rule), true) = (self.log.last[row].clone(), self.stands(row)) {
                 assert_eq!(rule_at(make, &mut self.array, row), rule);
-                let dead = self.log.lines[row] != 0;
+                let line = self.log.lines[row];
                 seen.read += 1;
-                seen.read_dead += usize::from(dead);
+                seen.read_dead += usize::from(line == 1);
+                seen.read_shorted += usize::from(line == 2);
             }
         }
     }
@@ -784,8 +841,10 @@ fn bottles_go_to_the_first_rule_that_holds_them_on_random_lists() {
     println!("{lists} lists: {seen:?}");
     assert!(seen.claimed.iter().all(|&bottles| bottles > 2_000));
     assert!(seen.and_back > 1_000 && seen.refused > 500);
-    assert!(seen.changed > 1_000 && seen.dead > 1_000 && seen.plain > 1_000);
-    assert!(seen.read > 10_000 && seen.read_dead > 1_000);
+    assert!(seen.before_shorted > 1_000 && seen.to_shorted > 1_000);
+    assert!(seen.changed > 1_000 && seen.plain > 1_000);
+    assert!(seen.dead > 1_000 && seen.shorted > 1_000);
+    assert!(seen.read > 10_000 && seen.read_dead > 500 && seen.read_shorted > 500);
 }
 
 /// The same at the widest shapes and on many rows.

@@ -2,7 +2,7 @@
 //! of the cycle, the match bytes, the questions, and what they are in a list.
 
 use peer::testing::arrays::{any_array, Make, BOTH};
-use peer::testing::lines::beside_opening;
+use peer::testing::lines::beside_openings;
 use peer::testing::lists::list;
 use peer::testing::log::Log;
 use peer::testing::naive::schedule::Schedule;
@@ -133,7 +133,7 @@ fn compare_some(random: &mut Random, shape: Shape, affordable: usize) {
     let schedule = spec.schedule(random.below(shape.digits));
     let steps = schedule.steps();
     let count = match random.below(3) {
-        0 => 0,
+        0 => random.below(3),
         1 => steps - 1 - random.below(steps.min(20)),
         _ => random.below(steps),
     };
@@ -262,11 +262,13 @@ fn the_questions_are_asked_for_every_number_of_steps() {
     let shorter: fn(&mut Vec<u8>) = |buffer| buffer.truncate(buffer.len() - 1);
     let mut random = settings::random(45);
     let spec = questions(GOOD).unwrap();
-    for cycle in [Cycle::open(1), Cycle::IDLE, spec.schedule(0).record(29)] {
+    let schedule = spec.schedule(0);
+    let records = [0, 1, 2, 30].map(|count| schedule.record(count));
+    for cycle in records.into_iter().chain([Cycle::open(1), Cycle::IDLE]) {
         let good = Stepped::drawn(&mut random, &spec, cycle);
         for (make, most) in BOTH
             .into_iter()
-            .flat_map(|make| edges(29).map(move |m| (make, m)))
+            .flat_map(|make| edges(30).map(move |m| (make, m)))
         {
             for (number, shape) in asked(GOOD) {
                 for place in 0..=State::<()>::BUFFERS {
@@ -291,7 +293,7 @@ fn the_questions_are_asked_for_every_number_of_steps() {
 }
 
 /// A record is refused with 9 exactly where a single step refuses it, whatever the
-/// number of steps: forged ones, such beside an opening, and those after a cycle.
+/// number of steps: forged ones, such beside the openings, and those after a cycle.
 #[test]
 fn a_record_is_refused_as_by_a_single_step() {
     let mut random = settings::random(46);
@@ -300,7 +302,7 @@ fn a_record_is_refused_as_by_a_single_step() {
         let spec = questions(small_shape(&mut random)).unwrap();
         let schedule = spec.schedule(random.below(spec.shape.digits));
         let count = random.below(schedule.steps() + 1);
-        let mut records = beside_opening(&spec, schedule.skip);
+        let mut records = beside_openings(&spec, schedule.skip);
         records.push(schedule.record(count));
         records.push(schedule.record(schedule.steps()));
         records.extend((0..5).map(|_| forged(&mut random, schedule.record(count))));

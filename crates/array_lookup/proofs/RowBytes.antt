@@ -4,7 +4,6 @@ use mathlib.Core.Path.{_≡_, refl, sym, _∙_, ap, ap₂}
 use mathlib.Core.Bool.{Bool, true, false, cond}
 use mathlib.Core.List.{List}
 use Prim.Native.Nat.{ℕ, _*_, _≤_, _<_}
-use native.Mathlib.Nat.{one-le-pow}
 use native.Mathlib.Omega.{arith}
 use lib.Dec.{eqb}
 use lib.ListN.{length, getD, take, drop}
@@ -13,7 +12,7 @@ use Rattle.parity.specs.Match.{matchByte, lineGives, lineMatch, taskVector}
 use Rattle.parity.specs.Shape.{levels, checks, columns}
 use Rattle.parity.specs.declared.Shape.{Shape}
 use Rattle.parity.proofs.Comparator.{reaches, match-compared, line-high}
-use Rattle.parity.proofs.Taken.{limits}
+use Rattle.parity.proofs.Sizes.{two-levels}
 use Rattle.shape.specs.Answers.{rowOrNone}
 use Rattle.shape.specs.Shapes.{sizesOf}
 use Rattle.shape.specs.declared.sizes.Sizes.{Sizes}
@@ -67,11 +66,11 @@ module _
     (s : Shape) (z : Sizes) (inputs : List ℕ) (below : Bool) (bytes cells lines : List ℕ) (p : CellsTaken s (length cells)) (e : z ≡ sizesOf s)
     (sized : length inputs ≡ s .width) (narrowed : Narrowed (levels s) inputs below bytes) where
   pub task-byte : (i : ℕ) → i < s .rows → byteOf below bytes cells lines (z .columns) i ≡ rowMatch (levels s) (columns s) (taskVector s inputs) cells lines i
-  unfolding rowMatch rowAt taskVector columns lineMatch levels
+  unfolding rowMatch rowAt taskVector columns lineMatch
   task-byte i h =
       let n = columns s in
       let whole = row-sized s cells i (p .counted) h in
-      let some : 0 < levels s = one-le-pow (s .digits) (s .radix) (omega (arith, limits s (p .taken) .radixLow)) in
+      let some : 0 < levels s = omega (arith, two-levels s (p .taken)) in
       let part : length inputs ≡ length (take (s .width) (rowAt n cells i))
       = sized ∙ sym (length-take-le (s .width) (rowAt n cells i) (omega (arith, whole))) in
       ap (λ z. byteOf below bytes cells lines (z .columns) i) e

@@ -1,10 +1,11 @@
--- The sizes of a shape taken: its columns fit an array of 255 bytes. Assumes nothing.
+-- The sizes of a shape taken: its columns fit an array of 255 bytes, and it has two levels at least. Assumes nothing.
 use mathlib.Core.Path.{refl}
-use Prim.Native.Nat.{ℕ, _+_, _≤_}
+use Prim.Native.Nat.{ℕ, zero, suc, _+_, _^_, _≤_}
+use native.Mathlib.Nat.{one-le-pow, pow-suc, mul-le-mul-right}
 use native.Mathlib.Omega.{arith}
 use lib.Dec.{leb}
 use borrow.Author.Tests.{leb-true}
-use Rattle.parity.specs.Shape.{largest, checks, columns}
+use Rattle.parity.specs.Shape.{levels, largest, checks, columns}
 use Rattle.parity.specs.Questions.{Taken}
 use Rattle.parity.specs.declared.Shape.{Shape}
 use Rattle.parity.proofs.ListLaws.{grid-at}
@@ -22,3 +23,14 @@ unfolding columns
 columns-high s t =
     let claim = redundancyClaim s t in
     omega (arith, largest-high (s .errors) (checks s) (limits s t .errorsLow) (limits s t .errorsHigh) (claim .low) (claim .high))
+
+-- there are two levels at least
+pub two-levels : (s : Shape) → Taken s → 2 ≤ levels s
+unfolding levels
+two-levels s t = go (s .digits) (limits s t .digitsLow)
+  where
+    go : (b : ℕ) → 1 ≤ b → 2 ≤ s .radix ^ b
+    go zero h = absurd (omega arith)
+    go (suc b) h =
+        let some : 1 ≤ s .radix ^ b = one-le-pow b (s .radix) (omega (arith, limits s t .radixLow)) in
+        rw (pow-suc (s .radix) b) (omega (arith, limits s t .radixLow, mul-le-mul-right (s .radix) some))

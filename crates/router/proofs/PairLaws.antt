@@ -11,6 +11,7 @@ use Rattle.parity.specs.Shape.{levels}
 use Rattle.parity.specs.Claims.{Below}
 use Rattle.parity.specs.Questions.{Taken}
 use Rattle.parity.specs.declared.Shape.{Shape}
+use Rattle.parity.proofs.Sizes.{two-levels}
 use Rattle.parity.proofs.Taken.{limits}
 use Rattle.shape.specs.Bounds.{Within}
 use Rattle.shape.specs.Shapes.{sizesOf}
@@ -19,7 +20,6 @@ use Rattle.array_lookup.proofs.Front.{blank, Holds, front-sized, front-held}
 use Rattle.router_ranges.specs.Ranges.{features, paired}
 use Rattle.router_ranges.proofs.Pairs.{paired-length}
 use Rattle.router.specs.Pairs.{PairsLent}
-use Rattle.router_questions.proofs.Asked.{two-levels}
 
 -- two bytes stored one after the other, after the n that are there already and before those that are to follow
 two-stored :

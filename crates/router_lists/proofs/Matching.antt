@@ -14,6 +14,7 @@ use Rattle.parity.specs.Match.{allAnswer, matchByte, lineGives, lineMatch, task
 use Rattle.parity.specs.Questions.{Taken}
 use Rattle.parity.specs.declared.Shape.{Shape}
 use Rattle.parity.proofs.ListLaws.{length-tabulate}
+use Rattle.parity.proofs.Sizes.{two-levels}
 use Rattle.parity.proofs.Taken.{limits}
 use Rattle.acam.proofs.TaskMatch.{task-match}
 use Rattle.array_memory.specs.Geometry.{rowMatch}
@@ -22,7 +23,6 @@ use Rattle.router_ranges.specs.Ranges.{features, ruleLevels, bottleInputs}
 use Rattle.router_ranges.specs.Claims.{Bottle}
 use Rattle.router_ranges.proofs.Ranges.{rangesClaim, levels-sized, inputs-sized}
 use Rattle.router.specs.Calls.{Router}
-use Rattle.router_questions.proofs.Asked.{two-levels}
 use Rattle.router_lists.specs.Log.{Written, cleared, ruled, other, RouterLog}
 use Rattle.router_lists.specs.Claims.{ruleHolds}
 use Rattle.router_lists.proofs.Fits.{Row, Fits}

@@ -2,8 +2,7 @@
 use mathlib.Core.Path.{_≡_, refl, _∙_}
 use mathlib.Core.Bool.{true}
 use mathlib.Core.List.{List, [], _∷_, _++_}
-use Prim.Native.Nat.{ℕ, zero, suc, _+_, _%_, _^_, _≤_, _<_}
-use native.Mathlib.Nat.{one-le-pow, pow-suc, mul-le-mul-right}
+use Prim.Native.Nat.{ℕ, _+_, _%_, _<_}
 use native.Mathlib.Omega.{arith}
 use lib.Dec.{eqb, leb, ltb, lit<}
 use lib.ListN.{length, getD}
@@ -15,7 +14,7 @@ use Rattle.parity.specs.Questions.{Question, firstNo, Taken, lengthsQuestion}
 use Rattle.parity.specs.declared.Shape.{Shape}
 use Rattle.parity.proofs.Alongside.{equal-alongside}
 use Rattle.parity.proofs.ListLaws.{every-at, every-passes}
-use Rattle.parity.proofs.Taken.{first-yes, limits}
+use Rattle.parity.proofs.Taken.{first-yes}
 use Rattle.shape.proofs.Refusals.{length-lent, call-passed, call-rest}
 use Rattle.array_memory.specs.Lengths.{cellsWanted, arrayWanted}
 use Rattle.array_questions.specs.Questions.{cellsQuestions, programArguments}
@@ -38,17 +37,6 @@ even-width s e =
 width-even : (s : Shape) → features s + features s ≡ s .width → eqb (s .width % 2) 0 ≡ true
 unfolding features
 width-even s e = eq-eqb (s .width % 2) 0 (omega arith)
-
--- there are two levels at least
-pub two-levels : (s : Shape) → Taken s → 2 ≤ levels s
-unfolding levels
-two-levels s t = go (s .digits) (limits s t .digitsLow)
-  where
-    go : (b : ℕ) → 1 ≤ b → 2 ≤ s .radix ^ b
-    go zero h = absurd (omega arith)
-    go (suc b) h =
-        let some : 1 ≤ s .radix ^ b = one-le-pow b (s .radix) (omega (arith, limits s t .radixLow)) in
-        rw (pow-suc (s .radix) b) (omega (arith, limits s t .radixLow, mul-le-mul-right (s .radix) some))
 
 -- levels below q, f of them
 below-given : (q f : ℕ) (given : List ℕ) → length given ≡ f → every (λ v. ltb v q) given ≡ true → Below q f given

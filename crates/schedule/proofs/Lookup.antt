@@ -5,7 +5,7 @@ use mathlib.Core.Logic.{_≢_}
 use mathlib.Core.Bool.{true, cond, _&&_, and-true}
 use mathlib.Core.List.{List, [], _∷_}
 use Prim.Native.Nat.{ℕ, zero, suc, _*_, _^_, _<_, suc-le-suc}
-use native.Mathlib.Nat.{suc-inj, suc-ne-zero, zero-lt-suc, le-of-suc-le-suc, not-suc-le-zero, one-le-pow}
+use native.Mathlib.Nat.{suc-inj, suc-ne-zero, zero-lt-suc, le-of-suc-le-suc, not-suc-le-zero}
 use native.Mathlib.Omega.{arith}
 use lib.Dec.{eqb, leb, leb·zero}
 use lib.ListN.{length, getD}
@@ -16,7 +16,7 @@ use Rattle.parity.specs.Questions.{Taken}
 use Rattle.parity.specs.declared.Shape.{Shape}
 use Rattle.parity.proofs.ListLaws.{length-tabulate, getD-tabulate}
 use Rattle.parity.proofs.Comparator.{answers-below}
-use Rattle.parity.proofs.Taken.{limits}
+use Rattle.parity.proofs.Sizes.{two-levels}
 use Rattle.schedule.specs.Schedule.{Entry, unitVector, testVector}
 
 -- every cell answers 1 to the input 0
@@ -55,15 +55,11 @@ match-unit q pos n j x row lt e =
     (λ i l ne. getD-tabulate n f i 0 (rw size at l) ∙ ap (λ t. cond t x 0) (ne-eqb i j ne))
     ∙ ap (λ y. answers q y (getD row j 0)) own)
 
-pub levels-some : (s : Shape) → Taken s → 0 < levels s
-unfolding levels
-levels-some s t = one-le-pow (s .digits) (s .radix) (omega (arith, limits s t .radixLow))
-
 pub match-entry :
     (s : Shape) → Taken s → (e : Entry) (row : List ℕ) → e .column < columns s → length row ≡ columns s
     → matchByte (levels s) (testVector s e) row ≡ cond (answers (levels s) (e .factor * s .radix ^ e .digit) (getD row (e .column) 0)) 1 0
 unfolding testVector
-match-entry s t e row = match-unit (levels s) (levels-some s t) (columns s) (e .column) (e .factor * s .radix ^ e .digit) row
+match-entry s t e row = match-unit (levels s) (omega (arith, two-levels s t)) (columns s) (e .column) (e .factor * s .radix ^ e .digit) row
 
 -- an input below q is compared and no more
 pub match-below :

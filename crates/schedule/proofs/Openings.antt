@@ -19,13 +19,14 @@ use Rattle.parity.specs.declared.Shape.{Shape}
 use Rattle.parity.proofs.Comparator.{answers-below, answers-none, line-sound, line-shorted, line-dead}
 use Rattle.parity.proofs.ListLaws.{everyTo-passes}
 use Rattle.parity.proofs.Remainders.{same-zero, same-times, same-trans, same-eq, zero-same}
+use Rattle.parity.proofs.Sizes.{two-levels}
 use Rattle.parity.proofs.Taken.{limits}
 use Rattle.schedule.specs.Schedule.{Entry, factors, ofDigit, sweep, ofCheck, tests, opening, deadOpening, shortedOpening, openings, schedule}
 use Rattle.schedule.specs.Schedule.{unitVector, testVector}
 use Rattle.schedule.specs.Tally.{flagged, reset, tallyStep, tallyRun}
 use Rattle.schedule.specs.Claims.{UnsoundClaim, UnseenClaim, TestsAloneClaim}
 use Rattle.schedule.proofs.Sums.{cond-same, sum-times}
-use Rattle.schedule.proofs.Lookup.{levels-some, match-entry}
+use Rattle.schedule.proofs.Lookup.{match-entry}
 use Rattle.schedule.proofs.Length.{entries, entries-length}
 use Rattle.schedule.proofs.Digit.{tally, matched}
 use Rattle.schedule.proofs.Sweep.{reading, readings, isQuiet, checkQuiet, tests-run}
@@ -41,7 +42,7 @@ pub dead-said : (s : Shape) → Taken s → (row : List ℕ) → length row ≡ 
 dead-said s t row sized =
     match-entry s t deadOpening row (columns-some s t) sized
     ∙ ap (λ x. cond (answers (levels s) x (getD row 0 0)) 1 0) (zero-mul (s .radix ^ 0))
-    ∙ ap (λ b. cond b 1 0) (answers-below (levels s) 0 (getD row 0 0) (levels-some s t) ∙ leb·zero (getD row 0 0))
+    ∙ ap (λ b. cond b 1 0) (answers-below (levels s) 0 (getD row 0 0) (omega (arith, two-levels s t)) ∙ leb·zero (getD row 0 0))
 
 -- .. and 0 to q
 pub shorted-said : (s : Shape) → Taken s → (row : List ℕ) → length row ≡ columns s → matchByte (levels s) (testVector s (shortedOpening s)) row ≡ 0

@@ -55,7 +55,7 @@ impl Array {
     }
 
     /// Whether cells, lines and inputs have the lengths that the lookups trust in.
-    fn fits_lookup(&self, cells: &[u8], lines: &[u8], inputs: &[u8]) -> bool {
+    fn fits_lookup(&self, cells: &[u8], lines: &[u8], inputs: &[u16]) -> bool {
         cells.len() == self.cells() && lines.len() == self.rows && inputs.len() == self.width
     }
 
@@ -146,14 +146,14 @@ linked! {
         array: *const Array,
         cells: *const u8,
         lines: *const u8,
-        inputs: *const u8,
+        inputs: *const u16,
         matches: *mut u8,
     ) -> usize;
     fn loops_first_match(
         array: *const Array,
         cells: *const u8,
         lines: *const u8,
-        inputs: *const u8,
+        inputs: *const u16,
     ) -> usize;
     fn loops_panel(array: *const Array, flags: *const u8, totals: *const u8, told: *mut Told);
     fn loops_reading(array: *const Array, flags: *const u8, told: *mut Told);
@@ -303,7 +303,7 @@ pub fn lookup(
     array: &Array,
     cells: &[u8],
     lines: &[u8],
-    inputs: &[u8],
+    inputs: &[u16],
     matches: &mut [u8],
 ) -> usize {
     assert!(array.fits_lookup(cells, lines, inputs) && matches.len() == array.rows);
@@ -319,7 +319,7 @@ pub fn lookup(
 }
 
 /// The first row that matches, m where there is none.
-pub fn first_match(array: &Array, cells: &[u8], lines: &[u8], inputs: &[u8]) -> usize {
+pub fn first_match(array: &Array, cells: &[u8], lines: &[u8], inputs: &[u16]) -> usize {
     assert!(array.fits_lookup(cells, lines, inputs));
     unsafe { loops_first_match(array, cells.as_ptr(), lines.as_ptr(), inputs.as_ptr()) }
 }

@@ -2,11 +2,13 @@
 
 use std::time::Duration;
 
+use peer::testing::inputs::as_inputs;
 use peer::testing::naive::spec::{questions, Spec};
 use peer::testing::random::Random;
 use peer::{Shape, State};
 
-use crate::{drifted, in_c, least, proved_calls, timed_each, Bench, Build, Pieces};
+use crate::{drifted, drifted_to_search, in_c, least, proved_calls, timed_each};
+use crate::{Bench, Build, Pieces};
 
 /// The two calls.
 #[derive(Clone, Copy, PartialEq, Eq)]
@@ -29,7 +31,10 @@ impl Lookup {
 
     /// The least times of the pieces of all calls.
     pub fn all(self, shape: Shape) -> Pieces {
-        let begin = drifted(shape);
+        let begin = match self {
+            Lookup::Task => drifted(shape),
+            Lookup::First => drifted_to_search(shape),
+        };
         let tasks = Tasks::drawn(&begin, shape, self);
         let (least, _) = least(&begin, |build, bench| tasks.run(build, bench));
         least
@@ -41,7 +46,7 @@ impl Lookup {
 struct Tasks {
     shape: Shape,
     lookup: Lookup,
-    inputs: Vec<(Vec<u8>, usize)>,
+    inputs: Vec<(Vec<u16>, usize)>,
 }
 
 impl Tasks {
@@ -50,11 +55,12 @@ impl Tasks {
         let mut random = Random::new(18);
         let spec = questions(shape).expect("a good shape");
         let draw = |call: usize| {
-            let mut inputs = random.levels(spec.levels, shape.width);
+            let mut levels = random.levels(spec.levels, shape.width);
             if call.is_multiple_of(2) {
                 let row = spec.row(&begin.state.cells, random.below(shape.rows));
-                inputs.copy_from_slice(&row[..shape.width]);
+                levels.copy_from_slice(&row[..shape.width]);
             }
+            let inputs = as_inputs(&levels);
             let answer = wanted(&spec, &begin.state, &inputs, lookup);
             (inputs, answer)
         };
@@ -81,7 +87,7 @@ impl Tasks {
 }
 
 /// The answer by the definitions.
-fn wanted(spec: &Spec, state: &State<Vec<u8>>, inputs: &[u8], lookup: Lookup) -> usize {
+fn wanted(spec: &Spec, state: &State<Vec<u8>>, inputs: &[u16], lookup: Lookup) -> usize {
     let inputs = spec.task_inputs(inputs);
     let matches = spec.match_bytes(&state.cells, &state.lines, &inputs);
     let mut matching = (0..spec.shape.rows).filter(|&row| matches[row] == 1);
@@ -97,7 +103,7 @@ fn look_up(
     shape: Shape,
     array: &in_c::Array,
     State { cells, lines, .. }: &State<Vec<u8>>,
-    inputs: &[u8],
+    inputs: &[u16],
     matches: &mut [u8],
 ) -> usize {
     match build {
@@ -117,7 +123,7 @@ fn find(
     shape: Shape,
     array: &in_c::Array,
     State { cells, lines, .. }: &State<Vec<u8>>,
-    inputs: &[u8],
+    inputs: &[u16],
 ) -> usize {
     match build {
         Build::Proved => {

@@ -9,7 +9,8 @@
 // - questions 7, 8, 18 and 19 of belt rules and routes;
 // - of question 9, whether the count is that of the place; a step asks that the
 //   cycle is open and that check, digit, column and factor are those of an
-//   opening or of a vector of the schedule, and so do several, at the first;
+//   opening, and its count too, or of a vector of the schedule, and so do
+//   several, at the first;
 // - the remainder of a counter that somebody else wrote.
 
 #include <stddef.h>
@@ -17,6 +18,8 @@
 #include <string.h>
 
 enum { IDLE, OPEN, COMPLETE };
+
+enum { SOUND = 0, SHORTED = 2 };  // line bytes; any other is dead
 
 enum { BLOCK = 64 };  // rows of a block
 
@@ -133,8 +136,24 @@ static void count_flags(size_t rows, const uint8_t *restrict flags,
     }
 }
 
-// The opening: all inputs are 0, so a row matches where its line is sound. The
-// others are flagged, and nothing is counted.
+// The match byte of a row, by its line and whether all its cells answer 1. There
+// is no branch, so that a loop takes many rows at a time.
+static inline uint8_t matched(uint8_t line, uint8_t answered)
+{
+    return (answered & (line == SOUND)) | (line == SHORTED);
+}
+
+// The match bytes of a vector with an input of q, to which no cell answers 1.
+static void match_beyond(size_t rows, const uint8_t *restrict lines,
+                         uint8_t *restrict matches)
+{
+    for (size_t i = 0; i < rows; i++)
+        matches[i] = matched(lines[i], 0);
+}
+
+// An opening, which counts nothing. In the first all inputs are 0, so all cells
+// answer 1, and the rows that do not match are flagged; in the second one is q,
+// and those that match.
 static uint8_t open_cycle(const struct array *array, struct record *record,
                           const uint8_t *restrict lines,
                           uint8_t *restrict flags, uint8_t *restrict totals,
@@ -142,14 +161,20 @@ static uint8_t open_cycle(const struct array *array, struct record *record,
 {
     size_t rows = array->rows;
     if (record->check != 0 || record->digit != 0 || record->column != 0 ||
-        record->skip >= array->digits)
+        record->count > 1 || record->skip >= array->digits)
         return 9;
-    for (size_t i = 0; i < rows; i++)
-        matches[i] = lines[i] == 0;
-    for (size_t i = 0; i < rows; i++)
-        flags[i] = matches[i] ? flags[i] : 1;
+    if (record->count == 0) {
+        for (size_t i = 0; i < rows; i++)
+            matches[i] = matched(lines[i], 1);
+        for (size_t i = 0; i < rows; i++)
+            flags[i] = matches[i] ? flags[i] : 1;
+    } else {
+        match_beyond(rows, lines, matches);
+        for (size_t i = 0; i < rows; i++)
+            flags[i] = matches[i] ? 1 : flags[i];
+        begin_digit(array, record, 0, array->digits - 1);
+    }
     count_flags(rows, flags, totals);
-    begin_digit(array, record, 0, array->digits - 1);
     record->count++;
     return 0;
 }
@@ -210,9 +235,8 @@ uint8_t loops_step(const struct array *array, struct record *record,
     size_t rows = array->rows, columns = array->columns;
     uint8_t radix = (uint8_t)array->radix, input = input_of(array, record);
     const uint8_t *cell = cells + record->column;
-    // no branch on the line, so that the loop takes many rows at a time
     for (size_t i = 0; i < rows; i++, cell += columns)
-        matches[i] = (*cell >= input) & (lines[i] == 0);
+        matches[i] = matched(lines[i], *cell >= input);
     for (size_t i = 0; i < rows; i++) {
         uint8_t sum = (uint8_t)(counters[i] + matches[i]);
         counters[i] = sum == radix ? 0 : sum;
@@ -240,8 +264,8 @@ static void count_held(const struct array *array, uint8_t input,
     size_t rows = array->rows;
     uint8_t radix = (uint8_t)array->radix;
     for (size_t i = 0; i < rows; i++) {
-        uint8_t matched = (held[i] >= input) & (lines[i] == 0);
-        uint8_t sum = (uint8_t)(counters[i] + matched);
+        uint8_t match = matched(lines[i], held[i] >= input);
+        uint8_t sum = (uint8_t)(counters[i] + match);
         counters[i] = sum == radix ? 0 : sum;
     }
 }
@@ -256,7 +280,7 @@ uint8_t loops_steps(const struct array *array, struct record *record,
 {
     size_t rows = array->rows, column = array->columns;  // none is held
     uint8_t input = 0;
-    if (record->phase == OPEN && record->factor == 0) {
+    while (record->phase == OPEN && record->factor == 0) {
         if (most-- == 0)
             return 0;
         if (open_cycle(array, record, lines, flags, totals, matches))
@@ -275,41 +299,83 @@ uint8_t loops_steps(const struct array *array, struct record *record,
     }
     if (column < array->columns)
         for (size_t i = 0; i < rows; i++)
-            matches[i] = (held[i] >= input) & (lines[i] == 0);
+            matches[i] = matched(lines[i], held[i] >= input);
     return 0;
 }
 
-// The match bytes of k inputs, and the number of matches. The check columns are
-// fed 0 and answer 1.
+// Writes k inputs as levels; 0 where one of them is q.
+static int as_levels(const struct array *array,
+                     const uint16_t *restrict inputs, uint8_t *restrict levels)
+{
+    size_t most = array->powers[array->digits];
+    int below = 1;
+    for (size_t j = 0; j < array->width; j++) {
+        below &= inputs[j] != most;
+        levels[j] = (uint8_t)inputs[j];
+    }
+    return below;
+}
+
+// The match bytes of k levels. The check columns are fed 0 and answer 1.
+static void match_levels(const struct array *array,
+                         const uint8_t *restrict cells,
+                         const uint8_t *restrict lines,
+                         const uint8_t *restrict levels,
+                         uint8_t *restrict matches)
+{
+    for (size_t i = 0; i < array->rows; i++, cells += array->columns) {
+        uint8_t answered = 1;
+        for (size_t j = 0; j < array->width; j++)
+            answered &= cells[j] >= levels[j];
+        matches[i] = matched(lines[i], answered);
+    }
+}
+
+// The match bytes of k inputs, and the number of matches.
 size_t loops_lookup(const struct array *array, const uint8_t *restrict cells,
                     const uint8_t *restrict lines,
-                    const uint8_t *restrict inputs, uint8_t *restrict matches)
+                    const uint16_t *restrict inputs, uint8_t *restrict matches)
 {
+    uint8_t levels[255];
     size_t found = 0;
-    for (size_t i = 0; i < array->rows; i++, cells += array->columns) {
-        uint8_t matched = lines[i] == 0;
-        for (size_t j = 0; j < array->width; j++)
-            matched &= cells[j] >= inputs[j];
-        matches[i] = matched;
-        found += matched;
-    }
+    if (as_levels(array, inputs, levels))
+        match_levels(array, cells, lines, levels, matches);
+    else
+        match_beyond(array->rows, lines, matches);
+    for (size_t i = 0; i < array->rows; i++)
+        found += matches[i];
     return found;
 }
 
-// The first row that matches k inputs, the number of rows where none does.
-size_t loops_first_match(const struct array *array, const uint8_t *cells,
-                         const uint8_t *lines, const uint8_t *inputs)
+// The first row that matches k levels, the number of rows where none does.
+static size_t first_row(const struct array *array, const uint8_t *cells,
+                        const uint8_t *lines, const uint8_t *levels)
 {
     size_t row = 0;
     for (; row < array->rows; row++, cells += array->columns) {
         size_t column = 0;
-        if (lines[row] != 0)
+        if (lines[row] == SHORTED)
+            break;
+        if (lines[row] != SOUND)
             continue;
-        while (column < array->width && cells[column] >= inputs[column])
+        while (column < array->width && cells[column] >= levels[column])
             column++;
         if (column == array->width)
             break;
     }
+    return row;
+}
+
+// The first row that matches k inputs, the number of rows where none does.
+size_t loops_first_match(const struct array *array, const uint8_t *cells,
+                         const uint8_t *lines, const uint16_t *inputs)
+{
+    uint8_t levels[255];
+    size_t row = 0;
+    if (as_levels(array, inputs, levels))
+        return first_row(array, cells, lines, levels);
+    while (row < array->rows && lines[row] != SHORTED)
+        row++;
     return row;
 }
 
@@ -471,9 +537,9 @@ size_t loops_route(const struct array *array, const uint8_t *cells,
                    const uint8_t *lines, const uint8_t *belts,
                    const uint8_t *values, uint8_t *belt)
 {
-    uint8_t inputs[255];
-    fill(array, values, values, inputs);
-    size_t row = loops_first_match(array, cells, lines, inputs);
+    uint8_t levels[255];
+    fill(array, values, values, levels);
+    size_t row = first_row(array, cells, lines, levels);
     *belt = row < array->rows ? belts[row] : 0;
     return row;
 }

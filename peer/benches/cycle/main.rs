@@ -101,7 +101,7 @@ struct Steps {
 }
 
 impl Steps {
-    /// The first steps of a cycle of all digits, its opening among them.
+    /// The first steps of a cycle of all digits, its openings among them.
     fn first(steps: usize) -> Steps {
         Steps { skip: 0, steps }
     }
@@ -337,8 +337,8 @@ fn least_of<W: Copy>(
     (least, end.expect("a run"))
 }
 
-/// All steps were made; a whole cycle flags and counts the rows with a dead line
-/// and those that drifted in a digit that it does not skip.
+/// All steps were made; a whole cycle flags and counts the rows with a dead or a
+/// shorted line and those that drifted in a digit that it does not skip.
 fn check_end(begin: &Bench, end: &Bench, Steps { skip, steps }: Steps, shape: Shape) {
     let cycle = cycle_of(&end.words);
     assert_eq!((cycle.count, cycle.skip), (steps, skip));
@@ -433,7 +433,7 @@ fn c_steps(shape: Shape, work: Steps, bench: &mut Bench) -> Vec<Duration> {
 }
 
 /// Rows of random levels with their check cells; in every 16th one cell has
-/// drifted in one binary digit, and every 32nd has a dead line.
+/// drifted in one binary digit, and of 32 one has a dead line and one a shorted one.
 fn drifted(shape: Shape) -> Bench {
     let layout = shape.layout().expect("a good shape");
     let mut bench = Bench::fresh(shape);
@@ -445,7 +445,21 @@ fn drifted(shape: Shape) -> Bench {
             let column = random.below(layout.columns());
             row[column] ^= 1 << random.below(shape.digits);
         }
-        bench.state.lines[number] = u8::from(number % 32 == 9);
+        bench.state.lines[number] = match number % 32 {
+            9 => 1,
+            25 => 2,
+            _ => 0,
+        };
+    }
+    bench
+}
+
+/// The same with sound lines for the shorted ones, the first of which would end
+/// every search for a row.
+fn drifted_to_search(shape: Shape) -> Bench {
+    let mut bench = drifted(shape);
+    for line in bench.state.lines.iter_mut().filter(|line| **line == 2) {
+        *line = 0;
     }
     bench
 }

@@ -13,8 +13,8 @@ use peer::testing::rules::any_rule;
 use peer::{Cycle, Layout, Route, Rule, Shape};
 
 use crate::rules::Rules;
-use crate::{begin_line, drifted, in_c, least, print_numbers, print_times, proved_calls, ratios};
-use crate::{timed_each, Bench, Build, Times, PIECE};
+use crate::{begin_line, drifted_to_search, in_c, least, print_numbers, print_times};
+use crate::{proved_calls, ratios, timed_each, Bench, Build, Times, PIECE};
 
 /// By what its lines are chosen.
 pub const TITLE: &str = "rules and routes";
@@ -77,7 +77,7 @@ fn times(shape: Shape) -> [Times; 6] {
 
 /// Bottles with the inputs that they feed, and where all of them go.
 struct Bottles {
-    each: Vec<(Vec<u8>, Vec<u8>)>,
+    each: Vec<(Vec<u8>, Vec<u16>)>,
     route: Route,
 }
 
@@ -139,7 +139,7 @@ impl Work {
         let rules = rules(&mut random, &layout);
         let levels = rules.iter().flat_map(|rule| levels_of(&spec, rule));
         let levels = Rules::new(shape, levels.collect());
-        let mut begin = drifted(shape);
+        let mut begin = drifted_to_search(shape);
         begin.words = words_of(Cycle::open(0));
         begin.belts = random.bytes(shape.rows);
         let mut end = begin.clone();

@@ -68,14 +68,20 @@ impl<B> Call<B> {
         }
     }
 
-    /// The levels of a row, the cells of a finished one, the inputs of a lookup, or
-    /// the values of a bottle.
+    /// The levels of a row, the cells of a finished one, or the values of a bottle.
     pub fn levels_mut(&mut self) -> Option<&mut Vec<u8>> {
         match self {
             Call::Program { levels, .. } | Call::Ask { levels, .. } => Some(levels),
             Call::Commit { finished, .. } => Some(finished),
-            Call::Lookup { inputs, .. } | Call::FirstMatch { inputs } => Some(inputs),
             Call::Route { values } => Some(values),
+            _ => None,
+        }
+    }
+
+    /// The inputs of a lookup.
+    pub fn inputs_mut(&mut self) -> Option<&mut Vec<u16>> {
+        match self {
+            Call::Lookup { inputs, .. } | Call::FirstMatch { inputs } => Some(inputs),
             _ => None,
         }
     }

@@ -4,6 +4,7 @@
 use crate::call::{Call, Name};
 use crate::router::Rule;
 use crate::shape::Layout;
+use crate::testing::inputs::any_inputs;
 use crate::testing::lent::Own;
 use crate::testing::lines::settable;
 use crate::testing::random::Random;
@@ -28,7 +29,7 @@ pub trait Draw {
     /// A line byte for one row.
     fn line(&mut self) -> u8;
     /// Inputs of a lookup.
-    fn inputs(&mut self) -> Vec<u8>;
+    fn inputs(&mut self) -> Vec<u16>;
     /// A belt rule.
     fn rule(&mut self) -> Rule<Vec<u8>>;
     /// A bottle's values.
@@ -148,11 +149,8 @@ impl Draw for Right<'_> {
         settable(self.random)
     }
 
-    /// Often low ones, so that rows match.
-    fn inputs(&mut self) -> Vec<u8> {
-        let levels = self.layout.levels();
-        let bound = self.random.pick(&[2, 3, levels]).min(levels);
-        self.random.levels(bound, self.layout.width())
+    fn inputs(&mut self) -> Vec<u16> {
+        any_inputs(self.random, self.layout.levels(), self.layout.width())
     }
 
     fn rule(&mut self) -> Rule<Vec<u8>> {

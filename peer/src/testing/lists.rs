@@ -4,6 +4,7 @@ use crate::call::{Call, Name};
 use crate::router::Rule;
 use crate::shape::{Layout, Shape};
 use crate::testing::draw::{self, some_bytes, some_length, some_number, Draw};
+use crate::testing::inputs::{any_inputs, spoil_input};
 use crate::testing::lent::Own;
 use crate::testing::lines::settable;
 use crate::testing::random::Random;
@@ -334,8 +335,11 @@ impl Mostly<'_> {
 impl Draw for Mostly<'_> {
     type Buffer = Vec<u8>;
 
+    /// Mostly as many good levels as there are rule columns.
     fn levels(&mut self) -> (usize, Vec<u8>) {
-        (self.row(), self.inputs())
+        let levels = self.layout.levels();
+        let levels = self.random.levels(levels, self.layout.width());
+        (self.row(), self.perhaps_wrong(levels))
     }
 
     /// Mostly as many bytes as there are columns.
@@ -373,11 +377,15 @@ impl Draw for Mostly<'_> {
         }
     }
 
-    /// Mostly as many good levels as there are rule columns.
-    fn inputs(&mut self) -> Vec<u8> {
+    /// Mostly as many good inputs as there are rule columns.
+    fn inputs(&mut self) -> Vec<u16> {
         let levels = self.layout.levels();
-        let levels = self.random.levels(levels, self.layout.width());
-        self.perhaps_wrong(levels)
+        let mut inputs = any_inputs(self.random, levels, self.layout.width());
+        inputs.resize(some_length(self.random, inputs.len()), 0);
+        if self.random.one_in(8) {
+            spoil_input(self.random, levels, &mut inputs);
+        }
+        inputs
     }
 
     /// Mostly a good one.

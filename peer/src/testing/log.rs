@@ -173,7 +173,7 @@ impl Log {
     }
 
     fn line(&mut self, row: usize, byte: u8) {
-        if row < self.spec.shape.rows && byte <= 1 {
+        if row < self.spec.shape.rows && byte <= 2 {
             self.mark = true;
             self.changed |= self.lines[row] != byte;
             self.lines[row] = byte;
@@ -210,7 +210,7 @@ impl Log {
     /// The count at which the cycle is ended.
     fn last_count(&self) -> usize {
         let levels = self.spec.levels / self.spec.shape.radix.pow(self.skip as u32);
-        1 + (levels - 1) * self.spec.weight()
+        2 + (levels - 1) * self.spec.weight()
     }
 
     /// The rows in both forms, with their lines.

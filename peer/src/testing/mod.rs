@@ -23,8 +23,10 @@
 //! - [`asks`]: an example of ask and commit, and what was seen of them;
 //! - [`rules`]: an example of belt rules, rules and bottles of every kind, and what
 //!   was seen of them;
-//! - [`lines`]: an example of a dead line, line bytes of every kind, records
-//!   beside that of an opening, and what was seen of dead lines;
+//! - [`lines`]: examples of a dead line and of a shorted one, line bytes of every
+//!   kind, records beside those of the openings, and what was seen of lines;
+//! - [`inputs`]: inputs of a lookup up to q, such above it, and what was seen of
+//!   them;
 //! - [`skips`]: an example of coarse cycles, numbers of digits that no start
 //!   takes, and what was seen of skipped digits;
 //! - [`steps`]: an example of calls of several steps, numbers of steps, and what
@@ -41,6 +43,7 @@ pub mod counts;
 pub mod damage;
 pub mod draw;
 pub mod guard;
+pub mod inputs;
 pub mod jobs;
 pub mod lent;
 pub mod lines;

@@ -43,18 +43,27 @@ pub fn cycle_of(words: &Words) -> Cycle {
     }
 }
 
-/// A record made from the given one by changing some of its fields, or none.
+/// A record made from the given one by changing some of its fields, or none. Now
+/// and then it loses its place, as one of an opening has none.
 pub fn forged(random: &mut Random, cycle: Cycle) -> Cycle {
     let mut forged = cycle;
     for _ in 0..random.below(3) {
-        match random.below(7) {
+        match random.below(8) {
             0 => forged.phase = random.pick(&[Phase::Idle, Phase::Open, Phase::Complete]),
             1 => forged.check = beside(random, forged.check),
             2 => forged.digit = beside(random, forged.digit),
             3 => forged.column = beside(random, forged.column),
             4 => forged.factor = beside(random, forged.factor),
             5 => forged.count = beside(random, forged.count),
-            _ => forged.skip = beside(random, forged.skip),
+            6 => forged.skip = beside(random, forged.skip),
+            _ => {
+                forged = Cycle {
+                    phase: forged.phase,
+                    count: forged.count,
+                    skip: forged.skip,
+                    ..Cycle::IDLE
+                }
+            }
         }
     }
     forged

@@ -167,19 +167,21 @@ enum Case {
     /// A rule was written: whether a cycle was open.
     Written { open: bool },
     /// A bottle was routed: whether a dead line or a cell of q or more stood in the
-    /// rows up to the one found.
+    /// rows up to the one found, and whether that one is shorted.
     Routed {
         found: Found,
         dead: bool,
         foreign: bool,
+        shorted: bool,
     },
     /// A rule was read: whether a cell of q or more stood in its row.
     Read { foreign: bool },
 }
 
-/// The two of a rule that is written; those of a bottle, of which one in the first
-/// row passed over no dead line; and the two of a rule that is read.
-const CASES: usize = 2 + (2 + 2 * 4) + 2;
+/// The two of a rule that is written; those of a bottle: in the first row, which
+/// passed over no dead line, in a later one, and in none, which is not shorted; and
+/// the two of a rule that is read.
+const CASES: usize = 2 + (4 + 8 + 4) + 2;
 
 /// Whether a cell of q or more stands in the rows.
 fn is_foreign(shape: Shape, cells: &[u8], rows: Range<usize>) -> bool {
@@ -198,8 +200,11 @@ fn routed(shape: Shape, found: Option<Route>, cells: &[u8], lines: &[u8]) -> Cas
             Some(_) => Found::Later,
             None => Found::None,
         },
-        dead: lines[..looked_at].iter().any(|&line| line != 0),
+        dead: lines[..looked_at]
+            .iter()
+            .any(|&line| line != 0 && line != 2),
         foreign: is_foreign(shape, cells, 0..looked_at),
+        shorted: found.is_some_and(|found| lines[found.row] == 2),
     }
 }
 

@@ -56,7 +56,7 @@ pub fn even(shape: Shape) -> Shape {
 }
 
 /// A small shape whose cycle of all digits has at most so many lookups (three
-/// or more) besides its opening.
+/// or more) besides its openings.
 pub fn short_cycle_shape(random: &mut Random, lookups: usize) -> Shape {
     loop {
         let shape = small_shape(random);

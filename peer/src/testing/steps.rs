@@ -16,7 +16,7 @@ pub struct Example {
     /// The calls from any state on, before the steps.
     pub calls: Vec<Call<Own>>,
     /// The calls of several steps, in turn.
-    pub made: [Several; 9],
+    pub made: [Several; 10],
 }
 
 /// A call of several steps, and what it leaves.
@@ -54,8 +54,8 @@ impl Several {
     }
 }
 
-/// The example. The rows are 5 2 1 6 and 0 0 4 0. After the opening each of the four
-/// columns is fed 4, then each 2 and 6, then each 1, 3, 5 and 7.
+/// The example. The rows are 5 2 1 6 and 0 0 4 0. After the two openings each of the
+/// four columns is fed 4, then each 2 and 6, then each 1, 3, 5 and 7.
 pub fn example() -> Example {
     Example {
         shape: Shape::new(2, 3, 1, 3, 2),
@@ -74,14 +74,15 @@ pub fn example() -> Example {
         ],
         made: [
             Several::new((0, 0, 0), [7, 7], [0, 0], [0, 0]),
-            Several::new((4, 0, 4), [0, 1], [1, 1], [0, 0]),
-            Several::new((0, 0, 4), [7, 7], [1, 1], [0, 0]),
-            Several::new((1, 0, 5), [1, 0], [0, 1], [0, 1]),
-            Several::new((8, 0, 13), [1, 0], [0, 0], [0, 1]),
-            Several::new((14, 0, 27), [1, 0], [1, 0], [0, 1]),
-            Several::new((3, 0, 29), [0, 0], [0, 0], [0, 1]),
-            Several::new((1, 9, 29), [7, 7], [0, 0], [0, 1]),
-            Several::new((0, 9, 29), [7, 7], [0, 0], [0, 1]),
+            Several::new((1, 0, 1), [1, 1], [0, 0], [0, 0]),
+            Several::new((4, 0, 5), [0, 1], [1, 1], [0, 0]),
+            Several::new((0, 0, 5), [7, 7], [1, 1], [0, 0]),
+            Several::new((1, 0, 6), [1, 0], [0, 1], [0, 1]),
+            Several::new((8, 0, 14), [1, 0], [0, 0], [0, 1]),
+            Several::new((14, 0, 28), [1, 0], [1, 0], [0, 1]),
+            Several::new((3, 0, 30), [0, 0], [0, 0], [0, 1]),
+            Several::new((1, 9, 30), [7, 7], [0, 0], [0, 1]),
+            Several::new((0, 9, 30), [7, 7], [0, 0], [0, 1]),
         ],
     }
 }
@@ -185,13 +186,34 @@ impl Number {
     }
 }
 
+/// Where a cycle is that goes on: before its openings, between them or after them.
+#[derive(Clone, Copy, Debug, PartialEq, Eq, PartialOrd, Ord)]
+enum Place {
+    First,
+    Second,
+    After,
+}
+
+impl Place {
+    /// How many there are.
+    const KINDS: usize = Place::After as usize + 1;
+
+    fn of(cycle: Cycle) -> Place {
+        match cycle.count {
+            0 => Place::First,
+            1 => Place::Second,
+            _ => Place::After,
+        }
+    }
+}
+
 /// A call of several steps.
 #[derive(Clone, Copy, Debug, PartialEq, Eq, PartialOrd, Ord)]
 enum Case {
-    /// It was taken: whether it found the cycle before its opening, whether it
-    /// found a counter of ρ or more, and how many steps it was to make.
+    /// It was taken: at which place it found the cycle, whether it found a counter
+    /// of ρ or more, and how many steps it was to make.
     Taken {
-        opens: bool,
+        place: Place,
         above: bool,
         number: Number,
     },
@@ -200,7 +222,7 @@ enum Case {
 }
 
 /// Those of a call that was taken, and two for each of the questions 1 to 6 and 9.
-const CASES: usize = 2 * 2 * Number::KINDS + 2 * 7;
+const CASES: usize = Place::KINDS * 2 * Number::KINDS + 2 * 7;
 
 /// How often each case was seen.
 #[derive(Debug, Default)]
@@ -222,7 +244,7 @@ impl Steps {
         };
         self.0.add(match answer.number() {
             0 => Case::Taken {
-                opens: before.count == 0,
+                place: Place::of(before),
                 above: counters.iter().any(|&c| usize::from(c) >= shape.radix),
                 number: Number::of(most, left(shape, before)),
             },

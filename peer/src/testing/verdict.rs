@@ -15,9 +15,9 @@ pub struct Row<'a> {
 }
 
 impl Row<'_> {
-    /// Whether its line is dead.
-    pub fn is_dead(&self) -> bool {
-        self.line != 0
+    /// Whether its line is sound, and so neither dead nor shorted.
+    pub fn has_sound_line(&self) -> bool {
+        self.line == 0
     }
 
     /// The number of cells in which floor(level / ρ^z) differs.
@@ -28,10 +28,10 @@ impl Row<'_> {
     }
 }
 
-/// The flag is right: 1 exactly where the line is dead or a sum of the digits
-/// from z on is not 0. Where the row differs in at most τ cells above the
-/// skipped digits, that is exactly where the line is dead or a cell differs
-/// there; and a row with a dead line is flagged however many cells differ.
+/// The flag is right: 1 exactly where the line is not sound or a sum of the digits
+/// from z on is not 0. Where the row differs in at most τ cells above the skipped
+/// digits, that is exactly where the line is not sound or a cell differs there; and
+/// a row whose line is not sound is flagged however many cells differ.
 ///
 /// # Panics
 ///
@@ -41,9 +41,10 @@ pub fn assert_flag(spec: &Spec, row: Row, skip: usize, flag: u8) {
     let right = |reason: bool| {
         assert_eq!(flag, u8::from(reason), "{shape} skip {skip} {row:?}");
     };
-    right(row.is_dead() || !spec.sums_hold(row.standing, skip));
+    let unsound_line = !row.has_sound_line();
+    right(unsound_line || !spec.sums_hold(row.standing, skip));
     let differing = row.differing(spec, skip);
-    if row.is_dead() || differing <= shape.errors {
-        right(row.is_dead() || differing > 0);
+    if unsound_line || differing <= shape.errors {
+        right(unsound_line || differing > 0);
     }
 }

@@ -1,8 +1,8 @@
 // The calls by their header: document 01's rows M1, M2 and M5, a drift, the cycle that finds it,
-// several steps by one call, what the panel is told, coarse cycles, a dead match line, a row that
-// is asked for and committed, belt rules and bottles for them, and refusals; and an array on which
-// every answer is another number, so that two that are swapped are seen. Each variable for an
-// answer starts with a value that the call does not give.
+// several steps by one call, what the panel is told, coarse cycles, a dead match line and a shorted
+// one, inputs up to q, a row that is asked for and committed, belt rules and bottles for them, and
+// refusals; and an array on which every answer is another number, so that two that are swapped are
+// seen. Each variable for an answer starts with a value that the call does not give.
 #include "jorivelune.h"
 
 #include "expect.h"
@@ -15,6 +15,7 @@ static int whole_cycle(void)
     struct jorivelune_record record = {0};
     uint8_t cells[8], lines[2] = {7, 7}, counters[2], flags[2], totals[1] = {7}, matches[2], out[3];
     const uint8_t m1[4] = {5, 2, 1, 6}, m2[4] = {4, 3, 1, 6};
+    const uint16_t second[3] = {4, 3, 1}, none[3] = {5, 3, 2};
     size_t count = 9, found = 9, steps = 0, total = 9, first = 9, read = 9;
     bool holds = false;
 
@@ -30,15 +31,14 @@ static int whole_cycle(void)
     EXPECT(holds);
 
     // 4 3 1 matches the second row alone, 5 3 2 no row
-    TAKEN(jorivelune_lookup(shape, cells, 8, lines, 2, m2, 3, matches, 2, &count));
+    TAKEN(jorivelune_lookup(shape, cells, 8, lines, 2, second, 3, matches, 2, &count));
     EXPECT(count == 1 && matches[0] == 0 && matches[1] == 1);
-    TAKEN(jorivelune_first_match(shape, cells, 8, lines, 2, m2, 3, &found));
+    TAKEN(jorivelune_first_match(shape, cells, 8, lines, 2, second, 3, &found));
     EXPECT(found == 1);
-    const uint8_t none[3] = {5, 3, 2};
     TAKEN(jorivelune_first_match(shape, cells, 8, lines, 2, none, 3, &found));
     EXPECT(found == shape.rows);
 
-    // one cell of the second row drifts; an opening and (q - 1) x W = 7 x 4 steps find it
+    // one cell of the second row drifts; two openings and (q - 1) x W = 7 x 4 steps find it
     TAKEN(jorivelune_drift(shape, cells, 8, 1, 2, 7));
     totals[0] = 7;
     TAKEN(jorivelune_start(&record, shape, 0, counters, 2, flags, 2, totals, 1));
@@ -48,12 +48,12 @@ static int whole_cycle(void)
                               matches, 2));
         steps++;
     }
-    EXPECT(record.phase == JORIVELUNE_COMPLETE && record.count == 29 && steps == 29);
+    EXPECT(record.phase == JORIVELUNE_COMPLETE && record.count == 30 && steps == 30);
     EXPECT(flags[0] == 0 && flags[1] == 1 && totals[0] == 1);
     totals[0] = 7;
     TAKEN(jorivelune_run(&record, shape, 0, cells, 8, lines, 2, counters, 2, flags, 2, totals, 1,
                          matches, 2));
-    EXPECT(record.count == 29 && flags[0] == 0 && flags[1] == 1 && totals[0] == 1);
+    EXPECT(record.count == 30 && flags[0] == 0 && flags[1] == 1 && totals[0] == 1);
     EXPECT(record.skip == 0);
 
     // the panel: one flagged row, found by reading both flags; none where the total is 0
@@ -105,7 +105,7 @@ static uint8_t steps_of(struct jorivelune_record *record, struct jorivelune_shap
                             lent->matches, matches);
 }
 
-// The first row holds 5 2 1 6, the second has drifted to 0 0 4 0, and a cycle is at its opening.
+// The first row holds 5 2 1 6, the second has drifted to 0 0 4 0, and a cycle is at its openings.
 static int begin_cycle(struct jorivelune_record *record, struct jorivelune_shape shape,
                        struct lent *lent)
 {
@@ -121,8 +121,8 @@ static int begin_cycle(struct jorivelune_record *record, struct jorivelune_shape
     return 0;
 }
 
-// Calls of several steps make the cycle that finds the drifted row: an opening, then each column is
-// fed 4, then 2 and 6, then 1, 3, 5 and 7.
+// Calls of several steps make the cycle that finds the drifted row: two openings, then each column
+// is fed 4, then 2 and 6, then 1, 3, 5 and 7.
 static int several_steps(void)
 {
     const struct jorivelune_shape shape = {2, 3, 1, 3, 2};
@@ -135,9 +135,14 @@ static int several_steps(void)
     EXPECT(record.count == 0);
     EXPECT(memcmp(&before, &lent, sizeof lent) == 0 && lent.matches[0] == 7);
 
-    // the opening and three lookups: the match bytes are those of the third column
+    // one opening: all rows match it, and there is still no place
+    TAKEN(steps_of(&record, shape, 1, &lent, 8, 2));
+    EXPECT(record.count == 1 && record.digit == 0 && record.factor == 0);
+    EXPECT(lent.matches[0] == 1 && lent.matches[1] == 1 && lent.flags[1] == 0);
+
+    // the other and three lookups: the match bytes are those of the third column
     TAKEN(steps_of(&record, shape, 4, &lent, 8, 2));
-    EXPECT(record.count == 4);
+    EXPECT(record.count == 5);
     EXPECT(record.digit == 2 && record.column == 3);
     EXPECT(lent.matches[0] == 0 && lent.matches[1] == 1 && lent.totals[0] == 0);
     EXPECT(lent.counters[0] == 1 && lent.counters[1] == 1 && lent.flags[1] == 0);
@@ -145,19 +150,19 @@ static int several_steps(void)
     // a single step between ends the digit and flags the second row
     TAKEN(jorivelune_step(&record, shape, lent.cells, 8, lent.lines, 2, lent.counters, 2,
                           lent.flags, 2, lent.totals, 1, lent.matches, 2));
-    EXPECT(record.count == 5 && lent.counters[0] == 0 && lent.counters[1] == 1);
+    EXPECT(record.count == 6 && lent.counters[0] == 0 && lent.counters[1] == 1);
     EXPECT(lent.flags[0] == 0 && lent.flags[1] == 1 && lent.totals[0] == 1);
 
     // a byte of the radix or more in a counter counts by its remainder
     lent.counters[0] = 254;
     lent.counters[1] = 255;
     TAKEN(steps_of(&record, shape, 22, &lent, 8, 2));
-    EXPECT(record.count == 27);
+    EXPECT(record.count == 28);
     EXPECT(lent.matches[0] == 1 && lent.counters[0] == 1 && lent.counters[1] == 0);
 
     // more than are left end the cycle
     TAKEN(steps_of(&record, shape, SIZE_MAX, &lent, 8, 2));
-    EXPECT(record.phase == JORIVELUNE_COMPLETE && record.count == 29);
+    EXPECT(record.phase == JORIVELUNE_COMPLETE && record.count == 30);
     EXPECT(lent.matches[0] == 0 && lent.matches[1] == 0 && lent.counters[0] == 0);
     EXPECT(lent.flags[0] == 0 && lent.flags[1] == 1 && lent.totals[0] == 1);
     return 0;
@@ -168,7 +173,7 @@ static int several_steps(void)
 static int refused_steps(void)
 {
     const struct jorivelune_shape shape = {2, 3, 1, 3, 2}, tall = {2, 3, 1, 3, 4097};
-    const size_t numbers[4] = {0, 1, 30, SIZE_MAX};
+    const size_t numbers[4] = {0, 1, 31, SIZE_MAX};
     struct jorivelune_record record = {0}, open;
     struct lent lent, before;
 
@@ -181,25 +186,25 @@ static int refused_steps(void)
         REFUSED(steps_of(&record, shape, numbers[i], &lent, 8, 1), LENGTH);
         REFUSED(steps_of(&record, tall, numbers[i], &lent, 7, 1), ROWS);
         EXPECT(memcmp(&open, &record, sizeof record) == 0);
-        record.count = 1;
+        record.count = 2;
         REFUSED(steps_of(&record, shape, numbers[i], &lent, 8, 2), RECORD);
-        EXPECT(record.count == 1 && memcmp(&before, &lent, sizeof lent) == 0);
+        EXPECT(record.count == 2 && memcmp(&before, &lent, sizeof lent) == 0);
         record.phase = JORIVELUNE_COMPLETE;
-        record.count = 29;
+        record.count = 30;
         REFUSED(steps_of(&record, shape, numbers[i], &lent, 8, 2), RECORD);
-        EXPECT(record.count == 29 && memcmp(&before, &lent, sizeof lent) == 0);
+        EXPECT(record.count == 30 && memcmp(&before, &lent, sizeof lent) == 0);
     }
     return 0;
 }
 
 // The lowest digit of a cell in the first row changes and the highest of one in the second. Cycles
-// that skip 0, 1 and 2 digits take 1 + (8 / 2^z - 1) x 4 steps; the coarse ones see the second
+// that skip 0, 1 and 2 digits take 2 + (8 / 2^z - 1) x 4 steps; the coarse ones see the second
 // alone.
 static int coarse_cycles(void)
 {
     const struct jorivelune_shape shape = {2, 3, 1, 3, 2};
     const uint8_t m1[3] = {5, 2, 1}, flagged[3][2] = {{1, 1}, {0, 1}, {0, 1}};
-    const size_t steps[3] = {29, 13, 5};
+    const size_t steps[3] = {30, 14, 6};
     const struct jorivelune_record idle = {0};
     struct jorivelune_record record = {0}, before;
     uint8_t cells[8], lines[2], counters[2], flags[2], totals[1], matches[2];
@@ -252,7 +257,7 @@ static int coarse_cycles(void)
     while (record.phase == JORIVELUNE_OPEN)
         TAKEN(jorivelune_step(&record, shape, cells, 8, lines, 2, counters, 2, flags, 2, totals, 1,
                               matches, 2));
-    EXPECT(record.count == 13 && memcmp(flags, flagged[1], 2) == 0);
+    EXPECT(record.count == 14 && memcmp(flags, flagged[1], 2) == 0);
     TAKEN(jorivelune_program(&record, shape, cells, 8, 0, m1, 3));
     EXPECT(memcmp(&idle, &record, sizeof record) == 0);
     return 0;
@@ -285,11 +290,12 @@ static int decimal_digits(void)
 }
 
 // The first of two equal rows has a dead line. It matches nothing, first match passes it over, and
-// the opening of a cycle flags it, though its cells are as they were written.
+// the first opening of a cycle flags it, though its cells are as they were written.
 static int dead_line(void)
 {
     const struct jorivelune_shape shape = {2, 3, 1, 3, 2};
-    const uint8_t m1[3] = {5, 2, 1}, dead[2] = {1, 0}, foreign[2] = {2, 255};
+    const uint8_t m1[3] = {5, 2, 1}, dead[2] = {1, 0}, foreign[2] = {3, 255};
+    const uint16_t inputs[3] = {5, 2, 1};
     struct jorivelune_record record = {0};
     size_t count = 9, found = 9;
     uint8_t cells[8], lines[2], counters[2], flags[2], totals[1], matches[2] = {7, 7};
@@ -299,26 +305,26 @@ static int dead_line(void)
                            totals, 1));
     TAKEN(jorivelune_program(&record, shape, cells, 8, 0, m1, 3));
     TAKEN(jorivelune_program(&record, shape, cells, 8, 1, m1, 3));
-    TAKEN(jorivelune_first_match(shape, cells, 8, lines, 2, m1, 3, &found));
+    TAKEN(jorivelune_first_match(shape, cells, 8, lines, 2, inputs, 3, &found));
     EXPECT(found == 0);
     TAKEN(jorivelune_line(shape, lines, 2, 0, 1));
     EXPECT(memcmp(lines, dead, 2) == 0);
-    TAKEN(jorivelune_first_match(shape, cells, 8, lines, 2, m1, 3, &found));
+    TAKEN(jorivelune_first_match(shape, cells, 8, lines, 2, inputs, 3, &found));
     EXPECT(found == 1);
-    TAKEN(jorivelune_lookup(shape, cells, 8, lines, 2, m1, 3, matches, 2, &count));
+    TAKEN(jorivelune_lookup(shape, cells, 8, lines, 2, inputs, 3, matches, 2, &count));
     EXPECT(count == 1 && matches[0] == 0 && matches[1] == 1);
 
-    // the line call's questions: a byte above 1 is refused last
-    REFUSED(jorivelune_line(shape, lines, 2, 1, 2), LINE);
+    // the line call's questions: a byte above 2 is refused last
+    REFUSED(jorivelune_line(shape, lines, 2, 1, 3), LINE);
     REFUSED(jorivelune_line(shape, lines, 2, 1, 255), LINE);
-    REFUSED(jorivelune_line(shape, lines, 2, 2, 2), PLACE);
-    REFUSED(jorivelune_line(shape, lines, 1, 2, 2), LENGTH);
+    REFUSED(jorivelune_line(shape, lines, 2, 2, 3), PLACE);
+    REFUSED(jorivelune_line(shape, lines, 1, 2, 3), LENGTH);
     struct jorivelune_shape tall = shape;
     tall.rows = 4097;
-    REFUSED(jorivelune_line(tall, lines, 1, 2, 2), ROWS);
+    REFUSED(jorivelune_line(tall, lines, 1, 2, 3), ROWS);
     EXPECT(memcmp(lines, dead, 2) == 0);
 
-    // the opening has no place, flags the row and leaves the counters; the first vector comes next
+    // the openings have no place, flag the row and leave the counters; the first vector comes next
     TAKEN(jorivelune_start(&record, shape, 0, counters, 2, flags, 2, totals, 1));
     EXPECT(record.phase == JORIVELUNE_OPEN && record.count == 0);
     EXPECT(record.check == 0 && record.digit == 0);
@@ -329,18 +335,23 @@ static int dead_line(void)
     EXPECT(matches[0] == 0 && matches[1] == 1 && flags[0] == 1 && flags[1] == 0);
     EXPECT(counters[0] == 7 && counters[1] == 0 && totals[0] == 1);
     EXPECT(record.phase == JORIVELUNE_OPEN && record.count == 1);
-    EXPECT(record.digit == 2 && record.factor == 1);
+    EXPECT(record.digit == 0 && record.factor == 0);
+    TAKEN(jorivelune_step(&record, shape, cells, 8, lines, 2, counters, 2, flags, 2, totals, 1,
+                          matches, 2));
+    EXPECT(matches[0] == 0 && matches[1] == 0 && flags[0] == 1 && flags[1] == 0);
+    EXPECT(counters[0] == 7 && counters[1] == 0 && totals[0] == 1);
+    EXPECT(record.count == 2 && record.digit == 2 && record.factor == 1);
 
     // whole cycles flag it until its line is sound again; programming does not help
     TAKEN(jorivelune_run(&record, shape, 0, cells, 8, lines, 2, counters, 2, flags, 2, totals, 1,
                          matches, 2));
-    EXPECT(record.count == 29 && flags[0] == 1 && flags[1] == 0 && totals[0] == 1);
+    EXPECT(record.count == 30 && flags[0] == 1 && flags[1] == 0 && totals[0] == 1);
     TAKEN(jorivelune_sound(shape, cells, 8, 0, &holds));
     EXPECT(holds);
     TAKEN(jorivelune_program(&record, shape, cells, 8, 0, m1, 3));
     TAKEN(jorivelune_run(&record, shape, 2, cells, 8, lines, 2, counters, 2, flags, 2, totals, 1,
                          matches, 2));
-    EXPECT(record.count == 5 && flags[0] == 1 && flags[1] == 0);
+    EXPECT(record.count == 6 && flags[0] == 1 && flags[1] == 0);
     TAKEN(jorivelune_line(shape, lines, 2, 0, 0));
     EXPECT(lines[0] == 0);
     TAKEN(jorivelune_run(&record, shape, 0, cells, 8, lines, 2, counters, 2, flags, 2, totals, 1,
@@ -349,7 +360,7 @@ static int dead_line(void)
 
     // bytes that no call sets are dead too, and stay
     memcpy(lines, foreign, 2);
-    TAKEN(jorivelune_first_match(shape, cells, 8, lines, 2, m1, 3, &found));
+    TAKEN(jorivelune_first_match(shape, cells, 8, lines, 2, inputs, 3, &found));
     EXPECT(found == shape.rows);
     TAKEN(jorivelune_run(&record, shape, 0, cells, 8, lines, 2, counters, 2, flags, 2, totals, 1,
                          matches, 2));
@@ -362,9 +373,95 @@ static int dead_line(void)
                             matches, 2), LENGTH);
     REFUSED(jorivelune_run(&record, shape, 0, cells, 8, lines, 1, counters, 2, flags, 2, totals, 1,
                            matches, 2), LENGTH);
-    REFUSED(jorivelune_lookup(shape, cells, 8, lines, 1, m1, 3, matches, 2, &count), LENGTH);
-    REFUSED(jorivelune_first_match(shape, cells, 8, lines, 1, m1, 3, &found), LENGTH);
+    REFUSED(jorivelune_lookup(shape, cells, 8, lines, 1, inputs, 3, matches, 2, &count), LENGTH);
+    REFUSED(jorivelune_first_match(shape, cells, 8, lines, 1, inputs, 3, &found), LENGTH);
     EXPECT(count == 0 && found == 0 && memcmp(lines, foreign, 2) == 0);
+    return 0;
+}
+
+// Of two rows the second has a shorted line. It matches everything, q too, and the second opening
+// of a cycle flags it.
+static int shorted_line(void)
+{
+    const struct jorivelune_shape shape = {2, 3, 1, 3, 2};
+    const uint8_t m1[3] = {5, 2, 1};
+    const uint16_t beyond[3] = {8, 0, 0}, later[3] = {0, 0, 8}, above[3] = {6, 0, 0};
+    struct jorivelune_record record = {0};
+    struct lent lent;
+    size_t count = 9, found = 9;
+
+    EXPECT(begin_cycle(&record, shape, &lent) == 0);
+    TAKEN(jorivelune_program(&record, shape, lent.cells, 8, 0, m1, 3));
+    TAKEN(jorivelune_line(shape, lent.lines, 2, 1, 2));
+    REFUSED(jorivelune_line(shape, lent.lines, 2, 1, 3), LINE);
+    EXPECT(lent.lines[0] == 0 && lent.lines[1] == 2);
+    TAKEN(jorivelune_lookup(shape, lent.cells, 8, lent.lines, 2, beyond, 3, lent.matches, 2,
+                            &count));
+    EXPECT(count == 1 && lent.matches[0] == 0 && lent.matches[1] == 1);
+    TAKEN(jorivelune_first_match(shape, lent.cells, 8, lent.lines, 2, above, 3, &found));
+    EXPECT(found == 1);
+    TAKEN(jorivelune_first_match(shape, lent.cells, 8, lent.lines, 2, later, 3, &found));
+    EXPECT(found == 1);
+
+    // a cell of q or more answers no to q, and yes to any input below
+    lent.cells[0] = 200;
+    TAKEN(jorivelune_lookup(shape, lent.cells, 8, lent.lines, 2, beyond, 3, lent.matches, 2,
+                            &count));
+    EXPECT(count == 1 && lent.matches[0] == 0 && lent.matches[1] == 1);
+    TAKEN(jorivelune_first_match(shape, lent.cells, 8, lent.lines, 2, beyond, 3, &found));
+    EXPECT(found == 1);
+    TAKEN(jorivelune_first_match(shape, lent.cells, 8, lent.lines, 2, above, 3, &found));
+    EXPECT(found == 0);
+    lent.cells[0] = 5;
+
+    // the first opening flags none, the second the shorted row, and no later step another one
+    TAKEN(jorivelune_start(&record, shape, 0, lent.counters, 2, lent.flags, 2, lent.totals, 1));
+    TAKEN(steps_of(&record, shape, 1, &lent, 8, 2));
+    EXPECT(lent.matches[0] == 1 && lent.matches[1] == 1);
+    EXPECT(lent.flags[0] == 0 && lent.flags[1] == 0 && record.count == 1);
+    TAKEN(steps_of(&record, shape, 1, &lent, 8, 2));
+    EXPECT(lent.matches[0] == 0 && lent.matches[1] == 1);
+    EXPECT(lent.flags[0] == 0 && lent.flags[1] == 1 && lent.totals[0] == 1);
+    EXPECT(lent.counters[0] == 0 && lent.counters[1] == 0 && record.count == 2);
+    TAKEN(steps_of(&record, shape, SIZE_MAX, &lent, 8, 2));
+    EXPECT(record.phase == JORIVELUNE_COMPLETE && record.count == 30);
+    EXPECT(lent.flags[0] == 0 && lent.flags[1] == 1);
+    return 0;
+}
+
+// An input above q is refused in every column, also one that is 0 or a level where it is cut to a
+// byte; so is q where a level is wanted.
+static int inputs_above(void)
+{
+    const struct jorivelune_shape shape = {2, 3, 1, 3, 2}, most = {2, 8, 1, 1, 1};
+    const uint16_t numbers[6] = {9, 255, 256, 261, 512, UINT16_MAX}, q[1] = {256}, over[1] = {257};
+    const uint8_t levels[3] = {0, 8, 0}, highest[2] = {255, 255}, sound = 0;
+    struct jorivelune_record record = {0};
+    struct lent lent;
+    size_t count = 9, found = 9;
+
+    EXPECT(begin_cycle(&record, shape, &lent) == 0);
+    for (int i = 0; i < 6; i++)
+        for (int column = 0; column < 3; column++) {
+            uint16_t inputs[3] = {0, 0, 0};
+            inputs[column] = numbers[i];
+            count = found = 9;
+            REFUSED(jorivelune_lookup(shape, lent.cells, 8, lent.lines, 2, inputs, 3, lent.matches,
+                                      2, &count), LEVEL);
+            REFUSED(jorivelune_first_match(shape, lent.cells, 8, lent.lines, 2, inputs, 3, &found),
+                    LEVEL);
+            EXPECT(count == 0 && found == 0 && lent.matches[0] == 7 && lent.matches[1] == 7);
+        }
+    REFUSED(jorivelune_program(&record, shape, lent.cells, 8, 0, levels, 3), LEVEL);
+    REFUSED(jorivelune_drift(shape, lent.cells, 8, 0, 0, 8), LEVEL);
+
+    // of 256 levels q is no byte any more
+    TAKEN(jorivelune_lookup(most, highest, 2, &sound, 1, q, 1, lent.matches, 1, &count));
+    EXPECT(count == 0 && lent.matches[0] == 0);
+    REFUSED(jorivelune_lookup(most, highest, 2, &sound, 1, over, 1, lent.matches, 1, &count),
+            LEVEL);
+    TAKEN(jorivelune_first_match(most, highest, 2, &sound, 1, q, 1, &found));
+    EXPECT(found == most.rows);
     return 0;
 }
 
@@ -530,6 +627,11 @@ static int belt_rules(void)
     TAKEN(jorivelune_program(&record, sorter, lent.cells, 15, 2, plain, 4));
     TAKEN(find_route(&lent, second, &found, &belt));
     EXPECT(found == 2 && belt == 52);
+
+    // a shorted row takes every bottle, whatever its ranges
+    TAKEN(jorivelune_line(sorter, lent.lines, 3, 0, 2));
+    TAKEN(find_route(&lent, second, &found, &belt));
+    EXPECT(found == 0 && belt == 7);
     return 0;
 }
 
@@ -629,6 +731,7 @@ enum { ROWS = 600, CELLS = 7200, BLOCKS = 10, WIDTH = 7, COLUMNS = 12 };
 
 static const struct jorivelune_shape large = {2, 6, 3, WIDTH, ROWS};
 static const uint8_t rule[COLUMNS] = {1, 2, 3, 4, 5, 6, 8, 3, 10, 8, 5, 11};
+static const uint16_t task[WIDTH] = {1, 2, 3, 4, 5, 6, 8}, beyond[WIDTH] = {0, 0, 0, 0, 0, 0, 64};
 static uint8_t cells[CELLS], lines[ROWS], counters[ROWS], flags[ROWS], totals[BLOCKS];
 static uint8_t matches[ROWS];
 
@@ -645,9 +748,9 @@ static int different_sizes(void)
 
     TAKEN(jorivelune_sizes(large, 0, &q, &r, &n, &of_cells, &blocks, &steps));
     EXPECT(q == 64 && r == 5 && n == COLUMNS);
-    EXPECT(of_cells == CELLS && blocks == BLOCKS && steps == 1 + 63 * 26);
+    EXPECT(of_cells == CELLS && blocks == BLOCKS && steps == 2 + 63 * 26);
     TAKEN(jorivelune_sizes(large, 1, &q, &r, &n, &of_cells, &blocks, &steps));
-    EXPECT(q == 64 && steps == 1 + 31 * 26);
+    EXPECT(q == 64 && steps == 2 + 31 * 26);
 
     // refused: all six are 0; the digits to skip are asked for last
     REFUSED(jorivelune_sizes(large, 6, &q, &r, &n, &of_cells, &blocks, &steps), SKIP);
@@ -659,7 +762,7 @@ static int different_sizes(void)
     return 0;
 }
 
-// A coarse cycle after 357 steps, when the seven words of its record are all different: of the
+// A coarse cycle after 358 steps, when the seven words of its record are all different: of the
 // last check row, digits 5 and 4 are done, and of digit 3 all columns but the last.
 static int different_words(void)
 {
@@ -668,16 +771,17 @@ static int different_words(void)
     TAKEN(clear_large(&record));
     EXPECT(record.phase == JORIVELUNE_IDLE && record.count == 0 && record.skip == 0);
     TAKEN(jorivelune_start(&record, large, 2, counters, ROWS, flags, ROWS, totals, BLOCKS));
-    TAKEN(jorivelune_steps(&record, large, 357, cells, CELLS, lines, ROWS, counters, ROWS,
+    TAKEN(jorivelune_steps(&record, large, 358, cells, CELLS, lines, ROWS, counters, ROWS,
                            flags, ROWS, totals, BLOCKS, matches, ROWS));
     EXPECT(record.phase == JORIVELUNE_OPEN && record.check == 4 && record.digit == 3);
     EXPECT(record.column == 11 && record.factor == 5);
-    EXPECT(record.count == 357 && record.skip == 2);
+    EXPECT(record.count == 358 && record.skip == 2);
     return 0;
 }
 
-// Three cells and a line go wrong, and a cycle finds the four rows. The first lies in the second
-// block, as the ninth of its rows; the last alone matches the last lookup, of 63 in column 11.
+// Three cells and two lines go wrong, and a cycle finds the five rows. The first lies in the second
+// block, as the ninth of its rows; the last and the shorted one alone match the last lookup, of 63
+// in column 11.
 static int different_panel(struct jorivelune_record *record)
 {
     size_t total = 1, first = 1, read = 1;
@@ -686,31 +790,35 @@ static int different_panel(struct jorivelune_record *record)
     TAKEN(jorivelune_drift(large, cells, CELLS, 130, 11, 2));
     TAKEN(jorivelune_drift(large, cells, CELLS, 599, 11, 63));
     TAKEN(jorivelune_line(large, lines, ROWS, 73, 1));
+    TAKEN(jorivelune_line(large, lines, ROWS, 598, 2));
     EXPECT(cells[72 * COLUMNS] == 1 && cells[130 * COLUMNS + 11] == 2);
-    EXPECT(cells[599 * COLUMNS + 11] == 63 && lines[73] == 1);
+    EXPECT(cells[599 * COLUMNS + 11] == 63 && lines[73] == 1 && lines[598] == 2);
     TAKEN(jorivelune_run(record, large, 0, cells, CELLS, lines, ROWS, counters, ROWS, flags, ROWS,
                          totals, BLOCKS, matches, ROWS));
-    EXPECT(record->phase == JORIVELUNE_COMPLETE && record->count == 1 + 63 * 26);
-    EXPECT(matches[599] == 1 && matches[598] == 0 && counters[599] == 0);
+    EXPECT(record->phase == JORIVELUNE_COMPLETE && record->count == 2 + 63 * 26);
+    EXPECT(matches[599] == 1 && matches[598] == 1 && matches[597] == 0 && counters[599] == 0);
     TAKEN(jorivelune_panel(large, flags, ROWS, totals, BLOCKS, &total, &first, &read));
-    EXPECT(total == 4 && first == 72 && read == 9);
+    EXPECT(total == 5 && first == 72 && read == 9);
     return 0;
 }
 
-// Nine rows match, and then eight, since the line of the first is dead.
+// Nine rows match and the shorted one, and then one fewer, since the line of the first is dead. Of
+// an input of q the shorted one alone is found.
 static int different_matches(struct jorivelune_record *record)
 {
     size_t count = 0, found = 0;
 
     for (size_t row = 150; row < 159; row++)
         TAKEN(jorivelune_program(record, large, cells, CELLS, row, rule, WIDTH));
-    TAKEN(jorivelune_lookup(large, cells, CELLS, lines, ROWS, rule, WIDTH, matches, ROWS, &count));
-    EXPECT(count == 9 && matches[149] == 0 && matches[150] == 1 && matches[158] == 1);
+    TAKEN(jorivelune_lookup(large, cells, CELLS, lines, ROWS, task, WIDTH, matches, ROWS, &count));
+    EXPECT(count == 10 && matches[149] == 0 && matches[150] == 1 && matches[158] == 1);
     TAKEN(jorivelune_line(large, lines, ROWS, 150, 1));
-    TAKEN(jorivelune_lookup(large, cells, CELLS, lines, ROWS, rule, WIDTH, matches, ROWS, &count));
-    EXPECT(count == 8 && matches[150] == 0 && matches[158] == 1 && matches[159] == 0);
-    TAKEN(jorivelune_first_match(large, cells, CELLS, lines, ROWS, rule, WIDTH, &found));
+    TAKEN(jorivelune_lookup(large, cells, CELLS, lines, ROWS, task, WIDTH, matches, ROWS, &count));
+    EXPECT(count == 9 && matches[150] == 0 && matches[158] == 1 && matches[159] == 0);
+    TAKEN(jorivelune_first_match(large, cells, CELLS, lines, ROWS, task, WIDTH, &found));
     EXPECT(found == 151);
+    TAKEN(jorivelune_first_match(large, cells, CELLS, lines, ROWS, beyond, WIDTH, &found));
+    EXPECT(found == 598);
     return 0;
 }
 
@@ -760,6 +868,10 @@ int main(void)
         wrong = coarse_cycles();
     if (!wrong)
         wrong = dead_line();
+    if (!wrong)
+        wrong = shorted_line();
+    if (!wrong)
+        wrong = inputs_above();
     if (!wrong)
         wrong = asked_row();
     if (!wrong)

@@ -27,6 +27,7 @@ enum { ENOUGH = JORIVELUNE_HEAD_BYTES(ROWS, WIDTH), EXACT = CELLS + 5 * ROWS + B
 static const struct jorivelune_shape shape = {2, 6, 3, WIDTH, ROWS};
 static const uint8_t rule[COLUMNS] = {1, 2, 3, 4, 5, 6, 8, 3, 10, 8, 5, 11};
 static const uint8_t other_rule[WIDTH] = {1, 2, 3, 4, 5, 6, 9};
+static const uint16_t task[WIDTH] = {1, 2, 3, 4, 5, 6, 8}, beyond[WIDTH] = {64, 0, 0, 0, 0, 0, 0};
 
 static uint8_t memory[ENOUGH];
 static struct jorivelune_head head;
@@ -111,7 +112,7 @@ static int sizes(void)
 
     TAKEN(jorivelune_head_sizes(shape, 1, &told));
     EXPECT(told.levels == 64 && told.checks == 5 && told.columns == COLUMNS);
-    EXPECT(told.cells == CELLS && told.blocks == BLOCKS && told.steps == 1 + 31 * 26);
+    EXPECT(told.cells == CELLS && told.blocks == BLOCKS && told.steps == 2 + 31 * 26);
     EXPECT(jorivelune_head_sum(shape, told) == EXACT);
     TAKEN(jorivelune_head_bytes(shape, &bytes));
     EXPECT(bytes == EXACT && EXACT < ENOUGH);
@@ -216,29 +217,35 @@ static int lending(void)
 
 // ---- every call both ways
 
-// A cycle on whatever stands there: a start, an opening, some steps, and the rest of a coarse run.
+// A cycle on whatever stands there and a shorted line: a start, two openings, some steps, and the
+// rest of a coarse run.
 static int foreign_bytes(void)
 {
     EXPECT(begin() == 0);
+    SAME(jorivelune_head_line(&head, 7, 2), jorivelune_line(shape, WHOLE(lines), 7, 2));
     SAME(jorivelune_head_start(&head, 2),
          jorivelune_start(&plain.record, shape, 2, WHOLE(counters), WHOLE(flags), WHOLE(totals)));
     SAME(jorivelune_head_step(&head),
          jorivelune_step(&plain.record, shape, WHOLE(cells), WHOLE(lines), WHOLE(counters),
                          WHOLE(flags), WHOLE(totals), WHOLE(matches)));
-    EXPECT(head.record.count == 1 && head.totals.bytes[0] == 64);
+    EXPECT(head.record.count == 1 && head.totals.bytes[0] == 63 && head.flags.bytes[7] == 0);
+    SAME(jorivelune_head_step(&head),
+         jorivelune_step(&plain.record, shape, WHOLE(cells), WHOLE(lines), WHOLE(counters),
+                         WHOLE(flags), WHOLE(totals), WHOLE(matches)));
+    EXPECT(head.record.count == 2 && head.totals.bytes[0] == 64 && head.flags.bytes[7] == 1);
     SAME(jorivelune_head_steps(&head, 356),
          jorivelune_steps(&plain.record, shape, 356, WHOLE(cells), WHOLE(lines), WHOLE(counters),
                           WHOLE(flags), WHOLE(totals), WHOLE(matches)));
     EXPECT(head.record.check == 4 && head.record.digit == 3 && head.record.column == 11);
-    EXPECT(head.record.factor == 5 && head.record.count == 357 && head.record.skip == 2);
+    EXPECT(head.record.factor == 5 && head.record.count == 358 && head.record.skip == 2);
     SAME(jorivelune_head_run(&head, 3),
          jorivelune_run(&plain.record, shape, 3, WHOLE(cells), WHOLE(lines), WHOLE(counters),
                         WHOLE(flags), WHOLE(totals), WHOLE(matches)));
-    EXPECT(head.record.phase == JORIVELUNE_COMPLETE && head.record.count == 1 + 7 * 26);
+    EXPECT(head.record.phase == JORIVELUNE_COMPLETE && head.record.count == 2 + 7 * 26);
     return 0;
 }
 
-// The fresh array, rows that are written, and cells and a line that go wrong.
+// The fresh array, rows that are written, and cells and lines that go wrong.
 static int written_rows(void)
 {
     EXPECT(begin() == 0);
@@ -256,11 +263,13 @@ static int written_rows(void)
     SAME(jorivelune_head_drift(&head, 599, 11, 63),
          jorivelune_drift(shape, WHOLE(cells), 599, 11, 63));
     SAME(jorivelune_head_line(&head, 150, 1), jorivelune_line(shape, WHOLE(lines), 150, 1));
-    EXPECT(head.cells.bytes[72 * COLUMNS] == 1 && head.lines.bytes[150] == 1);
+    SAME(jorivelune_head_line(&head, 400, 2), jorivelune_line(shape, WHOLE(lines), 400, 2));
+    EXPECT(head.cells.bytes[72 * COLUMNS] == 1);
+    EXPECT(head.lines.bytes[150] == 1 && head.lines.bytes[400] == 2);
     return 0;
 }
 
-// A whole cycle finds the three rows, by a run and by steps with counters in the middle of it.
+// A whole cycle finds the four rows, by a run and by steps with counters in the middle of it.
 static int whole_cycle(void)
 {
     SAME(jorivelune_head_start(&head, 0),
@@ -277,8 +286,9 @@ static int whole_cycle(void)
     SAME(jorivelune_head_run(&head, 0),
          jorivelune_run(&plain.record, shape, 0, WHOLE(cells), WHOLE(lines), WHOLE(counters),
                         WHOLE(flags), WHOLE(totals), WHOLE(matches)));
-    EXPECT(head.record.phase == JORIVELUNE_COMPLETE && head.record.count == 1 + 63 * 26);
+    EXPECT(head.record.phase == JORIVELUNE_COMPLETE && head.record.count == 2 + 63 * 26);
     EXPECT(head.flags.bytes[72] == 1 && head.flags.bytes[150] == 1 && head.flags.bytes[599] == 1);
+    EXPECT(head.flags.bytes[400] == 1 && head.matches.bytes[400] == 1);
     EXPECT(head.matches.bytes[599] == 1 && head.counters.bytes[599] == 0);
     return 0;
 }
@@ -290,27 +300,35 @@ static int panel(void)
 
     SAME(jorivelune_head_panel(&head, &told),
          jorivelune_panel(shape, WHOLE(flags), WHOLE(totals), &total, &first, &read));
-    EXPECT(told.total == 3 && told.first == 72 && told.read == 9);
-    EXPECT(total == 3 && first == 72 && read == 9);
+    EXPECT(told.total == 4 && told.first == 72 && told.read == 9);
+    EXPECT(total == 4 && first == 72 && read == 9);
     TAKEN(jorivelune_head_panel(&head, NULL));
     return 0;
 }
 
-// The line of the first of nine equal rows is dead; the row of the commit matches too.
+// The line of the first of nine equal rows is dead; the row of the commit matches too, and the
+// shorted one, which alone matches q.
 static int lookups(void)
 {
     size_t count = 0, by_hand = 0, found = 0, found_by_hand = 0;
 
-    SAME(jorivelune_head_lookup(&head, rule, WIDTH, &count),
-         jorivelune_lookup(shape, WHOLE(cells), WHOLE(lines), rule, WIDTH, WHOLE(matches),
+    SAME(jorivelune_head_lookup(&head, beyond, WIDTH, &count),
+         jorivelune_lookup(shape, WHOLE(cells), WHOLE(lines), beyond, WIDTH, WHOLE(matches),
                            &by_hand));
-    EXPECT(count == 9 && by_hand == 9 && head.matches.bytes[301] == 1);
-    SAME(jorivelune_head_first_match(&head, rule, WIDTH, &found),
-         jorivelune_first_match(shape, WHOLE(cells), WHOLE(lines), rule, WIDTH, &found_by_hand));
+    EXPECT(count == 1 && by_hand == 1 && head.matches.bytes[400] == 1);
+    SAME(jorivelune_head_first_match(&head, beyond, WIDTH, &found),
+         jorivelune_first_match(shape, WHOLE(cells), WHOLE(lines), beyond, WIDTH, &found_by_hand));
+    EXPECT(found == 400 && found_by_hand == 400);
+    SAME(jorivelune_head_lookup(&head, task, WIDTH, &count),
+         jorivelune_lookup(shape, WHOLE(cells), WHOLE(lines), task, WIDTH, WHOLE(matches),
+                           &by_hand));
+    EXPECT(count == 10 && by_hand == 10 && head.matches.bytes[301] == 1);
+    SAME(jorivelune_head_first_match(&head, task, WIDTH, &found),
+         jorivelune_first_match(shape, WHOLE(cells), WHOLE(lines), task, WIDTH, &found_by_hand));
     EXPECT(found == 151 && found_by_hand == 151);
     memset(head.matches.bytes, 16, ROWS);
-    TAKEN(jorivelune_head_lookup(&head, rule, WIDTH, NULL));
-    TAKEN(jorivelune_head_first_match(&head, rule, WIDTH, NULL));
+    TAKEN(jorivelune_head_lookup(&head, task, WIDTH, NULL));
+    TAKEN(jorivelune_head_first_match(&head, task, WIDTH, NULL));
     EXPECT(same());
     return 0;
 }
@@ -404,7 +422,7 @@ static uint8_t route_by_hand(const uint8_t *values, size_t *found, uint8_t *belt
 }
 
 // The bottle goes to the first rule, and one that is too high in a feature to the second; where
-// both lines are dead, to none.
+// both lines are dead, to none; and where a row is shorted, there.
 static int routes(void)
 {
     const uint8_t high[FEATURES] = {7, 1, 63, 41};
@@ -421,10 +439,14 @@ static int routes(void)
     SAME_BELTS(jorivelune_head_route(&sorter, bottle, FEATURES, &found, NULL),
                route_by_hand(bottle, &found_by_hand, &belt_by_hand));
     EXPECT(found == 300 && found_by_hand == 300);
-    sorter.lines.bytes[300] = by_hand.lines[300] = 2;
+    sorter.lines.bytes[300] = by_hand.lines[300] = 3;
     SAME_BELTS(jorivelune_head_route(&sorter, bottle, FEATURES, NULL, &belt),
                route_by_hand(bottle, &found_by_hand, &belt_by_hand));
     EXPECT(belt == 0 && found_by_hand == ROWS && belt_by_hand == 0);
+    sorter.lines.bytes[599] = by_hand.lines[599] = 2;
+    SAME_BELTS(jorivelune_head_route(&sorter, bottle, FEATURES, &found, &belt),
+               route_by_hand(bottle, &found_by_hand, &belt_by_hand));
+    EXPECT(found == 599 && belt == 17 && found_by_hand == 599 && belt_by_hand == 17);
     TAKEN(jorivelune_head_route(&sorter, bottle, FEATURES, NULL, NULL));
     EXPECT(same_belts());
     return 0;
@@ -523,18 +545,19 @@ static int no_bytes(void)
     return 0;
 }
 
-// One byte less and one more of each buffer of the caller's.
+// One byte or number less and one more of each buffer of the caller's.
 static int wrong_lengths(void)
 {
     uint8_t levels[WIDTH + 1] = {0}, cells[COLUMNS + 1] = {0};
+    uint16_t inputs[WIDTH + 1] = {0};
     size_t changed = 9, count = 9, found = 9;
 
     for (size_t narrow = WIDTH - 1; narrow <= WIDTH + 1; narrow += 2) {
         REFUSED(jorivelune_head_program(&head, 0, levels, narrow), LENGTH);
         REFUSED(jorivelune_head_read(&head, 0, levels, narrow), LENGTH);
         REFUSED(jorivelune_head_ask(&head, 0, levels, narrow, cells, COLUMNS, &changed), LENGTH);
-        REFUSED(jorivelune_head_lookup(&head, levels, narrow, &count), LENGTH);
-        REFUSED(jorivelune_head_first_match(&head, levels, narrow, &found), LENGTH);
+        REFUSED(jorivelune_head_lookup(&head, inputs, narrow, &count), LENGTH);
+        REFUSED(jorivelune_head_first_match(&head, inputs, narrow, &found), LENGTH);
     }
     for (size_t wide = COLUMNS - 1; wide <= COLUMNS + 1; wide += 2) {
         REFUSED(jorivelune_head_commit(&head, 0, cells, wide), LENGTH);
@@ -549,19 +572,24 @@ static int wrong_lengths(void)
 static int other_questions(void)
 {
     bool holds = true;
+    const uint16_t above[WIDTH] = {0, 0, 0, 0, 0, 0, 65};
     uint8_t lows[3] = {0}, highs[3] = {0}, belt = 9;
-    size_t found = 9;
+    size_t count = 9, found = 9;
 
     REFUSED(jorivelune_head_step(&head), RECORD);
     REFUSED(jorivelune_head_steps(&head, 0), RECORD);
     REFUSED(jorivelune_head_start(&head, 6), SKIP);
     REFUSED(jorivelune_head_run(&head, 6), SKIP);
-    REFUSED(jorivelune_head_line(&head, 0, 2), LINE);
-    REFUSED(jorivelune_head_line(&head, ROWS, 2), PLACE);
+    REFUSED(jorivelune_head_line(&head, 0, 3), LINE);
+    REFUSED(jorivelune_head_line(&head, ROWS, 3), PLACE);
     REFUSED(jorivelune_head_drift(&head, 0, COLUMNS, 0), PLACE);
     REFUSED(jorivelune_head_drift(&head, 0, 0, 64), LEVEL);
+    REFUSED(jorivelune_head_lookup(&head, above, WIDTH, &count), LEVEL);
+    REFUSED(jorivelune_head_first_match(&head, above, WIDTH, &found), LEVEL);
+    EXPECT(count == 0 && found == 0);
     REFUSED(jorivelune_head_sound(&head, ROWS, &holds), PLACE);
     REFUSED(jorivelune_head_rule(&head, 0, lows, 3, highs, 3, 5), FEATURES);
+    found = 9;
     REFUSED(jorivelune_head_route(&head, NULL, 0, &found, &belt), FEATURES);
     EXPECT(found == 0 && belt == 0);
     belt = 9;
@@ -596,10 +624,10 @@ static int empty_head(void)
     REFUSED(jorivelune_head_ask(&empty, 0, rule, WIDTH, bytes, COLUMNS, &number), RADIX);
     EXPECT(number == 0);
     number = 9;
-    REFUSED(jorivelune_head_lookup(&empty, rule, WIDTH, &number), RADIX);
+    REFUSED(jorivelune_head_lookup(&empty, task, WIDTH, &number), RADIX);
     EXPECT(number == 0);
     number = 9;
-    REFUSED(jorivelune_head_first_match(&empty, rule, WIDTH, &number), RADIX);
+    REFUSED(jorivelune_head_first_match(&empty, task, WIDTH, &number), RADIX);
     REFUSED(jorivelune_head_sound(&empty, 0, &holds), RADIX);
     EXPECT(number == 0);
     number = 9;
@@ -614,7 +642,7 @@ static int empty_head(void)
     empty.shape = shape;
     REFUSED(jorivelune_head_clear(&empty), LENGTH);
     REFUSED(jorivelune_head_run(&empty, 0), LENGTH);
-    REFUSED(jorivelune_head_lookup(&empty, rule, WIDTH, NULL), LENGTH);
+    REFUSED(jorivelune_head_lookup(&empty, task, WIDTH, NULL), LENGTH);
     empty.shape = sorter_shape;
     REFUSED(jorivelune_head_rule(&empty, 0, rule_lows, FEATURES, rule_highs, FEATURES, 5), LENGTH);
     REFUSED(jorivelune_head_route(&empty, bottle, FEATURES, NULL, NULL), LENGTH);

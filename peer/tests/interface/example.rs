@@ -134,7 +134,7 @@ static inline uint8_t jorivelune_head_sound(const struct jorivelune_head *head, 
 static inline uint8_t jorivelune_head_wide(const uint16_t *inputs, size_t inputs_length,
                                            uint16_t input, uint8_t *out, size_t out_length)
 {
-    return jorivelune_wide(JORIVELUNE_GIVEN(inputs), input, JORIVELUNE_LENT(out));
+    return jorivelune_wide(JORIVELUNE_INPUTS(inputs), input, JORIVELUNE_LENT(out));
 }
 static inline uint8_t jorivelune_head_route(const uint8_t *values, size_t values_length,
                                             size_t *found, uint8_t *belt)

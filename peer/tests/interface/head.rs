@@ -7,7 +7,12 @@ use super::text::{bracketed, last_word, parts, places, without_comments, Place, 
 const ROW_PARTS: &str = "JORIVELUNE_ROW_PARTS";
 
 /// What stands for a buffer and its length.
-const BUFFERS: [&str; 3] = ["JORIVELUNE_PART(", "JORIVELUNE_GIVEN(", "JORIVELUNE_LENT("];
+const BUFFERS: [&str; 4] = [
+    "JORIVELUNE_PART(",
+    "JORIVELUNE_GIVEN(",
+    "JORIVELUNE_INPUTS(",
+    "JORIVELUNE_LENT(",
+];
 
 /// What is wrong with the calls of the functions: each is made once, in the inline
 /// function of its name, and every argument bears the name of its parameter.

@@ -2,6 +2,7 @@
 //! spoiled.
 
 use peer::testing::draw::{some_length, some_number};
+use peer::testing::inputs::spoil_input;
 use peer::testing::lent::{Lent, Own};
 use peer::testing::random::Random;
 use peer::testing::rules::spoil_rule;
@@ -21,7 +22,6 @@ impl Drawn {
     /// Puts something wrong in up to three times. What the call does not have is
     /// spoiled to no effect. No part gets longer than there is room for.
     pub fn spoil(&mut self, random: &mut Random, layout: &Layout, room: Lent<usize>) {
-        let mut none = Vec::new();
         for _ in 0..random.below(4) {
             match random.below(10) {
                 0 => spoil(random, &mut self.shape),
@@ -38,13 +38,31 @@ impl Drawn {
                 8 => {
                     *self.call.level_mut().unwrap_or(&mut 0) = random.byte();
                     *self.call.line_mut().unwrap_or(&mut 0) = random.byte();
-                    spoil_level(random, self.call.levels_mut().unwrap_or(&mut none));
+                    self.spoil_levels(random, layout);
                 }
-                _ => {
-                    let levels = self.call.levels_mut().unwrap_or(&mut none);
-                    levels.resize(some_length(random, levels.len()), 0);
-                }
+                _ => self.change_number(random),
             }
+        }
+    }
+
+    /// Any byte for one of the levels, and any number for one of the inputs.
+    fn spoil_levels(&mut self, random: &mut Random, layout: &Layout) {
+        if let Some(levels) = self.call.levels_mut().filter(|levels| !levels.is_empty()) {
+            let place = random.below(levels.len());
+            levels[place] = random.byte();
+        }
+        if let Some(inputs) = self.call.inputs_mut() {
+            spoil_input(random, layout.levels(), inputs);
+        }
+    }
+
+    /// More of the levels or inputs, or fewer.
+    fn change_number(&mut self, random: &mut Random) {
+        if let Some(levels) = self.call.levels_mut() {
+            levels.resize(some_length(random, levels.len()), 0);
+        }
+        if let Some(inputs) = self.call.inputs_mut() {
+            inputs.resize(some_length(random, inputs.len()), 0);
         }
     }
 
@@ -80,13 +98,5 @@ impl Drawn {
     /// Another number of digits to skip, one that a start takes or not.
     fn change_skip(&mut self, random: &mut Random, layout: &Layout) {
         *self.call.skip_mut().unwrap_or(&mut 0) = some_number(random, layout.digits());
-    }
-}
-
-/// Any byte for one of the levels.
-fn spoil_level(random: &mut Random, levels: &mut [u8]) {
-    if !levels.is_empty() {
-        let place = random.below(levels.len());
-        levels[place] = random.byte();
     }
 }

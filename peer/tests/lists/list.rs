@@ -3,6 +3,7 @@
 use peer::testing::asks::Asks;
 use peer::testing::draw::{self, Right};
 use peer::testing::guard::Guarded;
+use peer::testing::inputs::Inputs;
 use peer::testing::lent::{Lent, Own};
 use peer::testing::lines::{any_lines, Lines};
 use peer::testing::naive::schedule::Schedule;
@@ -45,6 +46,8 @@ pub struct Seen {
     pub steps: Steps,
     /// What lines the calls were lent.
     pub lines: Lines,
+    /// What inputs lookups were given.
+    pub inputs: Inputs,
     /// What the panel was told.
     pub panels: Cases,
 }
@@ -74,7 +77,7 @@ pub struct List<'a> {
 
 impl<'a> List<'a> {
     /// The beginning: buffers with any bytes and a record with any fields. Of the
-    /// lines not all are dead, so that rows match.
+    /// lines many are sound, so that the cells of their rows count.
     pub fn new(seed: u64, shape: impl Fn(&mut Random) -> Shape, seen: &'a mut Seen) -> List<'a> {
         let mut random = Random::new(seed);
         let shape = shape(&mut random);
@@ -216,6 +219,7 @@ impl<'a> List<'a> {
         self.seen.lines.add(name, answer, cycle, after, &lines);
         self.seen.steps.add(shape, &made, answer, cycle, &counters);
         let cells = &self.ours.lent.state.cells;
+        self.seen.inputs.add(shape, &made, answer, cells, &lines);
         self.seen
             .rules
             .add(shape, &made, answer, cycle, cells, &lines);

@@ -8,6 +8,7 @@ mod asks;
 mod coarse;
 mod drawn;
 mod event;
+mod inputs;
 mod lines;
 mod list;
 mod pieces;
@@ -60,10 +61,11 @@ fn random_lists_leave_the_same() {
     assert!(seen.forged >= 1_000 && seen.nameless >= 100);
     seen.tally.assert_complete();
     seen.asks.assert_each(80);
-    seen.rules.assert_each(80);
+    seen.rules.assert_each(25);
     seen.skips.assert_each(80);
     seen.steps.assert_each(25);
-    seen.lines.assert_each(80);
+    seen.lines.assert_each(5);
+    seen.inputs.assert_each(80);
     seen.panels.assert_each(1);
 }
 

@@ -1,6 +1,7 @@
 //! The pieces of which a list is made.
 
 use peer::testing::draw::some_number;
+use peer::testing::inputs::as_inputs;
 use peer::testing::lent::{wrong_lengths, Lent};
 use peer::testing::lines::{any_lines, WITH_LINES};
 use peer::testing::panels::{foreign, WITH_TOTALS};
@@ -123,7 +124,8 @@ impl List<'_> {
         }
     }
 
-    /// A row is programmed, its line is set, and it is looked up.
+    /// A row is programmed, its line is set, and it is looked up, also with q in a
+    /// column.
     fn set_row(&mut self) {
         let row = self.random.below(self.shape.rows);
         for name in [Name::Program, Name::Line] {
@@ -131,16 +133,22 @@ impl List<'_> {
             *drawn.call.row_mut().expect("a call on a row") = row;
             self.make(drawn);
         }
-        self.look_up_row(row);
+        self.look_up_row(row, None);
+        let beyond = self.random.below(self.shape.width);
+        self.look_up_row(row, Some(beyond));
     }
 
-    /// Looks a row up by its own rule cells, which are levels: it matches where
-    /// its line is sound.
-    pub fn look_up_row(&mut self, row: usize) {
-        let levels = self.row(row)[..self.shape.width].to_vec();
+    /// Looks a row up by its own rule cells, which are levels, but for a column that
+    /// is fed q: it matches where its line is shorted, and without such a column
+    /// where its line is sound.
+    pub fn look_up_row(&mut self, row: usize, beyond: Option<usize>) {
+        let mut inputs = as_inputs(&self.row(row)[..self.shape.width]);
+        if let Some(column) = beyond {
+            inputs[column] = self.layout.levels() as u16;
+        }
         for name in [Name::Lookup, Name::FirstMatch] {
             let mut drawn = self.right(name);
-            *drawn.call.levels_mut().expect("a lookup") = levels.clone();
+            *drawn.call.inputs_mut().expect("a lookup") = inputs.clone();
             self.make(drawn);
         }
     }
@@ -148,6 +156,12 @@ impl List<'_> {
     /// Somebody else writes the lines.
     pub fn write_lines(&mut self, lines: Vec<u8>) {
         self.write(LINES, 0, lines);
+    }
+
+    /// Somebody else writes lines of any kind.
+    pub fn any_lines(&mut self) {
+        let lines = any_lines(&mut self.random, self.shape.rows);
+        self.write_lines(lines);
     }
 
     /// One step or several with a forged record; the true one is put back after a
@@ -285,12 +299,12 @@ impl List<'_> {
     }
 
     /// The record of any place of the schedule of any z, its end most often, and
-    /// often its opening.
+    /// often one of its openings.
     pub fn jump(&mut self) {
         let schedule = &self.schedules[self.random.below(self.shape.digits)];
         let steps = schedule.steps();
         let count = match self.random.below(6) {
-            0 => 0,
+            0 => self.random.below(2),
             1 | 2 => self.random.below(steps),
             _ => steps - 1 - self.random.below(steps.min(5)),
         };

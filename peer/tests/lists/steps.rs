@@ -1,7 +1,7 @@
 //! Calls of several steps, through both builds.
 
 use peer::testing::lent::Lent;
-use peer::testing::lines::beside_opening;
+use peer::testing::lines::beside_openings;
 use peer::testing::naive::spec::questions;
 use peer::testing::records::words_of;
 use peer::testing::settings;
@@ -223,7 +223,7 @@ fn the_questions_of_several_steps_come_in_the_same_order() {
             }
         }
         for skip in 0..list.shape.digits {
-            for beside in beside_opening(&spec, skip) {
+            for beside in beside_openings(&spec, skip) {
                 list.refuse_record(beside, spec.steps(skip));
             }
             let complete = list.complete(skip);

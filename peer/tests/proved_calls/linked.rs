@@ -241,7 +241,7 @@ linked! {
         cells_length: usize,
         lines: *const u8,
         lines_length: usize,
-        inputs: *const u8,
+        inputs: *const u16,
         inputs_length: usize,
         matches: *mut u8,
         matches_length: usize,
@@ -253,7 +253,7 @@ linked! {
         cells_length: usize,
         lines: *const u8,
         lines_length: usize,
-        inputs: *const u8,
+        inputs: *const u16,
         inputs_length: usize,
         found: *mut usize,
     ) -> u8;

@@ -341,7 +341,7 @@ pub fn lookup(
     shape: Shape,
     cells: &[u8],
     lines: &[u8],
-    inputs: &[u8],
+    inputs: &[u16],
     matches: &mut [u8],
 ) -> (u8, usize) {
     let mut count = usize::MAX;
@@ -382,7 +382,7 @@ pub fn panel(shape: Shape, flags: &[u8], totals: &[u8]) -> (u8, [usize; 3]) {
 }
 
 /// The number, and the row: m where none matches.
-pub fn first_match(shape: Shape, cells: &[u8], lines: &[u8], inputs: &[u8]) -> (u8, usize) {
+pub fn first_match(shape: Shape, cells: &[u8], lines: &[u8], inputs: &[u16]) -> (u8, usize) {
     let mut found = usize::MAX;
     let number = unsafe {
         jorivelune_first_match(

@@ -5,7 +5,7 @@ use super::router::{route, rule, rule_at};
 use super::schedule::{Lookup, Schedule};
 use super::sizes::sizes;
 use super::spec::{questions, Spec};
-use super::{all_below, ask};
+use super::{all_below, ask, none_above};
 use crate::call::{Answer, Call};
 use crate::cycle::{Cycle, Phase};
 use crate::list::Array;
@@ -143,23 +143,23 @@ fn line(array: &mut Array, row: usize, byte: u8) -> Result<(), u8> {
     questions(array.shape)?;
     ask_lines(array)?;
     ask(row < array.shape.rows, 7)?;
-    ask(byte <= 1, 16)?;
+    ask(byte <= 2, 16)?;
     array.state.lines[row] = byte;
     Ok(())
 }
 
-fn lookup(array: &Array, inputs: &[u8], matches: &mut Vec<u8>) -> Result<usize, u8> {
+fn lookup(array: &Array, inputs: &[u16], matches: &mut Vec<u8>) -> Result<usize, u8> {
     let spec = ask_cells(array)?;
     ask_lines(array)?;
     ask(inputs.len() == array.shape.width, 6)?;
     ask(matches.len() == array.shape.rows, 6)?;
-    ask(all_below(inputs, spec.levels), 8)?;
+    ask(none_above(inputs, spec.levels), 8)?;
     *matches = match_bytes(&spec, array, &spec.task_inputs(inputs));
     Ok(matches.iter().filter(|&&matched| matched == 1).count())
 }
 
 /// The match bytes of a full vector on the array as it stands.
-fn match_bytes(spec: &Spec, array: &Array, inputs: &[u8]) -> Vec<u8> {
+fn match_bytes(spec: &Spec, array: &Array, inputs: &[u16]) -> Vec<u8> {
     spec.match_bytes(&array.state.cells, &array.state.lines, inputs)
 }
 
@@ -225,7 +225,8 @@ fn take_step(spec: &Spec, schedule: &Schedule, array: &mut Array, matches: &mut 
     let lookup = schedule.lookups[count];
     *matches = match_bytes(spec, array, &spec.inputs(lookup));
     match lookup {
-        Lookup::Opening => flag_rows(array, |_, row| matches[row] == 0),
+        Lookup::Zeros => flag_rows(array, |_, row| matches[row] == 0),
+        Lookup::Beyond => flag_rows(array, |_, row| matches[row] == 1),
         Lookup::Vector(_) => {
             count_matches(spec, array, matches);
             close(schedule, count, array);
@@ -276,11 +277,11 @@ fn run(array: &mut Array, skip: usize, matches: &mut Vec<u8>) -> Result<(), u8> 
     Ok(())
 }
 
-pub(super) fn first_match(array: &Array, inputs: &[u8]) -> Result<Option<usize>, u8> {
+pub(super) fn first_match(array: &Array, inputs: &[u16]) -> Result<Option<usize>, u8> {
     let spec = ask_cells(array)?;
     ask_lines(array)?;
     ask(inputs.len() == array.shape.width, 6)?;
-    ask(all_below(inputs, spec.levels), 8)?;
+    ask(none_above(inputs, spec.levels), 8)?;
     let matches = match_bytes(&spec, array, &spec.task_inputs(inputs));
     Ok((0..array.shape.rows).find(|&row| matches[row] == 1))
 }

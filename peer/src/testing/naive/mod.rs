@@ -19,6 +19,12 @@ fn ask(yes: bool, number: u8) -> Result<(), u8> {
     }
 }
 
+/// Question 8 for levels and values: all of them are below q.
 fn all_below(levels: &[u8], bound: usize) -> bool {
     levels.iter().all(|&level| usize::from(level) < bound)
+}
+
+/// Question 8 for inputs: none of them is above q.
+fn none_above(inputs: &[u16], bound: usize) -> bool {
+    !inputs.iter().any(|&input| usize::from(input) > bound)
 }

@@ -24,11 +24,11 @@ pub fn levels_of(spec: &Spec, rule: &Rule<Vec<u8>>) -> Vec<u8> {
 }
 
 /// The inputs of a bottle: for each feature its value x, and then q − 1 − x.
-pub fn inputs_of(spec: &Spec, values: &[u8]) -> Vec<u8> {
+pub fn inputs_of(spec: &Spec, values: &[u8]) -> Vec<u16> {
     let mut inputs = Vec::new();
     for &value in values {
-        inputs.push(value);
-        inputs.push(mirrored(spec, value));
+        inputs.push(value.into());
+        inputs.push(mirrored(spec, value).into());
     }
     inputs
 }

@@ -20,7 +20,9 @@ pub struct Vector {
 #[derive(Clone, Copy, Debug, PartialEq, Eq)]
 pub enum Lookup {
     /// The all-zero vector, which looks for dead lines.
-    Opening,
+    Zeros,
+    /// q in column 0 and 0 elsewhere, which looks for shorted lines.
+    Beyond,
     /// A test vector, which counts.
     Vector(Vector),
 }
@@ -43,10 +45,10 @@ const NOWHERE: Vector = Vector {
 };
 
 impl Spec {
-    /// The opening, and then the schedule as nested loops. Each ℓ ends at s = z.
+    /// The openings, and then the schedule as nested loops. Each ℓ ends at s = z.
     pub fn schedule(&self, skip: usize) -> Schedule {
         let radix = self.shape.radix;
-        let mut lookups = vec![Lookup::Opening];
+        let mut lookups = vec![Lookup::Zeros, Lookup::Beyond];
         for check in 0..self.checks {
             for digit in (skip..self.shape.digits).rev() {
                 for column in self.support(check) {
@@ -79,10 +81,10 @@ impl Schedule {
     }
 
     /// The record that a start and so many accepted steps leave: its place is
-    /// that of the next vector, 0 where the opening or nothing is to come.
+    /// that of the next vector, 0 where an opening or nothing is to come.
     pub fn record(&self, count: usize) -> Cycle {
         let (phase, place) = match self.lookups.get(count) {
-            Some(Lookup::Opening) => (Phase::Open, NOWHERE),
+            Some(Lookup::Zeros | Lookup::Beyond) => (Phase::Open, NOWHERE),
             Some(Lookup::Vector(vector)) => (Phase::Open, *vector),
             None => (Phase::Complete, NOWHERE),
         };
@@ -104,9 +106,12 @@ impl Schedule {
     }
 
     /// Whether the step of the lookup with the given number looks for rows to
-    /// flag: it is the opening, or the last one of its check and digit.
+    /// flag: it is an opening, or the last one of its check and digit.
     pub fn looks_for_flags(&self, count: usize) -> bool {
-        self.lookups[count] == Lookup::Opening || self.ends_digit(count)
+        match self.lookups[count] {
+            Lookup::Zeros | Lookup::Beyond => true,
+            Lookup::Vector(_) => self.ends_digit(count),
+        }
     }
 
     /// Whether the lookup with the given number is the last one of its check and
@@ -127,7 +132,7 @@ impl Schedule {
         match (self.lookups[count], self.lookups.get(count + 1)) {
             (Lookup::Vector(now), Some(Lookup::Vector(next))) => of(&now) != of(next),
             (Lookup::Vector(_), _) => true,
-            (Lookup::Opening, _) => false,
+            (Lookup::Zeros | Lookup::Beyond, _) => false,
         }
     }
 }

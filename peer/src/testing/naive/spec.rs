@@ -100,14 +100,14 @@ impl Spec {
     }
 
     /// The number of vectors of a cycle that skips so many low digits, the
-    /// opening left out.
+    /// openings left out.
     pub fn lookups(&self, skip: usize) -> usize {
         (self.levels / self.shape.radix.pow(skip as u32) - 1) * self.weight()
     }
 
     /// The number of steps of such a cycle.
     pub fn steps(&self, skip: usize) -> usize {
-        1 + self.lookups(skip)
+        2 + self.lookups(skip)
     }
 
     /// Whether a row is sound, by the definition.
@@ -156,19 +156,23 @@ impl Spec {
         u8::try_from(cell).expect("a level")
     }
 
-    /// The n inputs of a lookup: all 0 in an opening, all but one in a vector.
-    pub fn inputs(&self, lookup: Lookup) -> Vec<u8> {
+    /// The n inputs of a lookup: all 0 in the first opening, all but one in the
+    /// second and in a vector.
+    pub fn inputs(&self, lookup: Lookup) -> Vec<u16> {
         let mut inputs = vec![0; self.columns()];
-        if let Lookup::Vector(vector) = lookup {
-            inputs[vector.column] = self.input(vector);
+        match lookup {
+            Lookup::Zeros => {}
+            Lookup::Beyond => inputs[0] = self.levels as u16,
+            Lookup::Vector(vector) => inputs[vector.column] = self.input(vector),
         }
         inputs
     }
 
     /// The input of a vector's column.
-    fn input(&self, vector: Vector) -> u8 {
+    fn input(&self, vector: Vector) -> u16 {
         let level = vector.factor * self.shape.radix.pow(vector.digit as u32);
-        u8::try_from(level).expect("a level")
+        assert!(level < self.levels, "a level");
+        level as u16
     }
 
     /// One row of the cells.
@@ -177,26 +181,35 @@ impl Spec {
     }
 
     /// The match bytes of a full vector.
-    pub fn match_bytes(&self, cells: &[u8], lines: &[u8], inputs: &[u8]) -> Vec<u8> {
+    pub fn match_bytes(&self, cells: &[u8], lines: &[u8], inputs: &[u16]) -> Vec<u8> {
         (0..self.shape.rows)
-            .map(|row| match_byte(lines[row], self.row(cells, row), inputs))
+            .map(|row| self.match_byte(lines[row], self.row(cells, row), inputs))
             .collect()
     }
 
     /// A task lookup's full vector: the check columns are fed 0.
-    pub fn task_inputs(&self, inputs: &[u8]) -> Vec<u8> {
+    pub fn task_inputs(&self, inputs: &[u16]) -> Vec<u16> {
         let mut full = inputs.to_vec();
         full.resize(self.columns(), 0);
         full
     }
-}
 
-/// The match byte of a row under a full vector: 0 where its line is dead.
-fn match_byte(line: u8, row: &[u8], inputs: &[u8]) -> u8 {
-    assert_eq!(row.len(), inputs.len());
-    let no = row.iter().zip(inputs).any(|(cell, input)| input > cell);
-    match line {
-        0 => u8::from(!no),
-        _ => 0,
+    /// The match byte of a row under a full vector: always 1 where its line is
+    /// shorted, and always 0 where it is dead.
+    fn match_byte(&self, line: u8, row: &[u8], inputs: &[u16]) -> u8 {
+        assert_eq!(row.len(), inputs.len());
+        match line {
+            0 => {
+                let mut cells = row.iter().zip(inputs);
+                u8::from(cells.all(|(&cell, &input)| self.answers(cell, input)))
+            }
+            2 => 1,
+            _ => 0,
+        }
+    }
+
+    /// Whether a cell answers 1 to an input: never to q.
+    pub fn answers(&self, cell: u8, input: u16) -> bool {
+        usize::from(input) != self.levels && input <= u16::from(cell)
     }
 }
