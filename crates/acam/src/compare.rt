@@ -88,13 +88,14 @@ pub fn match_byte(inputs: &[u8], row: &[u8]) -> u8
 }
 
 // What a row's match line gives, where its cells say this: a sound line, 0, what they say, a shorted one, 2, always 1, and any
-// other, which is dead, 0. One choice after the other and no early return, so that a loop over the rows that calls it is compiled
-// to vector code.
+// other, which is dead, 0. Two choices and a sum, of which one at most is not 0, and no early return, so that a loop over the rows
+// that calls it is compiled to short vector code.
 pub fn line_gives(line: u8, said: u8) -> u8
     ensures { λ r. ⌜ r ≡ lineGives line said ⌝ }
 {
     let sound: u8 = if line == 0 { said } else { 0 };
-    if line == 2 { 1 } else { sound }
+    let shorted: u8 = if line == 2 { 1 } else { 0 };
+    sound + shorted
 }
 
 // The byte that a row's match line gives, by inputs that are all below q or not: the cells are looked at only where they can
