@@ -56,8 +56,9 @@ RoutesExampleClaim =
     ∷ refused nowhere 6
     ∷ []
 
--- The bottle 2 3 after other lists: none; the book; a cell that drifts away, and away and back; a dead line; row 0 programmed without a rule, which
--- sends the bottle to the belt that stands there; and a clear after the book. And the bottle of zeros in the fresh array.
+-- The bottle 2 3 after other lists: none; the book; a cell that drifts away, and away and back; a dead line; a shorted line, whose row takes the bottle
+-- though its cell has drifted away; row 0 programmed without a rule, which sends the bottle to the belt that stands there; and a clear after the book. And
+-- the bottle of zeros in the fresh array.
 unfoldable pub histories : List (List RouterCall)
 histories =
     []
@@ -65,6 +66,7 @@ histories =
     ∷ (book ++ plain (drift 0 0 1) ∷ [])
     ∷ (book ++ plain (drift 0 0 1) ∷ plain (drift 0 0 5) ∷ [])
     ∷ (book ++ plain (line 0 1) ∷ [])
+    ∷ (book ++ plain (drift 0 0 1) ∷ plain (line 0 2) ∷ [])
     ∷ (book ++ plain (program 0 (7 ∷ 7 ∷ 7 ∷ 7 ∷ [])) ∷ [])
     ∷ (book ++ plain clear ∷ [])
     ∷ []
@@ -77,6 +79,7 @@ HistoriesExampleClaim =
     ∷ accepted (to 1 9)
     ∷ accepted (to 0 7)
     ∷ accepted (to 1 9)
+    ∷ accepted (to 0 7)
     ∷ accepted (to 0 7)
     ∷ accepted nowhere
     ∷ [])
