@@ -173,7 +173,7 @@ impl Cycle {
         }
     }
 
-    // Step: makes the next lookup of the schedule, the opening or a test; where it looks for rows to flag, the blocks'
+    // Step: makes the next lookup of the schedule, an opening or a test; where it looks for rows to flag, the blocks'
     // totals are counted anew; after the last lookup the record is complete.
     pub fn step(
         self,

@@ -87,7 +87,7 @@ pub extern "C" fn jorivelune_start(
     store(words, cycle.start(shape, skip, counters, flags, totals))
 }
 
-// Step: makes the next lookup of the schedule, the opening or a test, and writes the match bytes; where it looks for rows to
+// Step: makes the next lookup of the schedule, an opening or a test, and writes the match bytes; where it looks for rows to
 // flag, counts the blocks' totals anew.
 #[no_mangle]
 pub extern "C" fn jorivelune_step(
