@@ -25,7 +25,8 @@ def snake(name):
 
 
 def turn(text, own):
-    return NAME.sub(lambda m: snake(m.group(0)) if m.group(0) in own else LEMMAS.get(m.group(0), m.group(0)), text)
+    lemmas = {n: to for n, to in LEMMAS.items() if any(snake(o) == n for o in own)}
+    return NAME.sub(lambda m: snake(m.group(0)) if m.group(0) in own else lemmas.get(m.group(0), m.group(0)), text)
 
 
 def files(*patterns):
@@ -34,17 +35,21 @@ def files(*patterns):
 
 
 def names(path):
-    """The names in camelCase of a file of specs/ or proofs/."""
-    return {n for n in NAME.findall(path.read_text(encoding="utf8")) if snake(n) != n}
+    """The names in camelCase of a file: of a .rt file, those of its imports for contracts alone."""
+    text = path.read_text(encoding="utf8")
+    if path.suffix == ".rt":
+        text = "\n".join(line for line in text.splitlines() if line.startswith("ghost use "))
+    return {n for n in NAME.findall(text) if snake(n) != n}
 
 
 def main():
     antt = list(files("crates/*/specs/**/*.antt", "crates/*/proofs/**/*.antt"))
-    own = set().union(*map(names, antt))
+    code = list(files("crates/*/src/**/*.rt"))
+    own = set().union(*map(names, antt + code))
     for path in antt + list(files("crates/*/must-fail/*.edit", "README.md", "docs/*.md")):
         text = path.read_text(encoding="utf8")
         path.write_text(turn(text, own), encoding="utf8")
-    for path in files("crates/*/src/**/*.rt"):
+    for path in code:
         parts = QUOTED.split(path.read_text(encoding="utf8"))
         path.write_text("".join(p if p.startswith('"') else turn(p, own) for p in parts), encoding="utf8")
 

@@ -1,7 +1,7 @@
 // The test of a row for soundness: whether it is a codeword.
 ghost use Rattle.std.specs.Prelude.{◌≡◌, true, ◌%◌, ◌≤◌, eqb, ltb, length, get_or};
 ghost use Rattle.parity.specs.Lists.{every, every_to};
-ghost use Rattle.parity.specs.Shape.{levels as levelsOf};
+ghost use Rattle.parity.specs.Shape.{levels as levels_of};
 ghost use Rattle.parity.specs.Codeword.{is_codeword};
 ghost use Rattle.acam.specs.Rows.{ToTest};
 ghost use Rattle.shape.specs.Bounds.{Within};
@@ -30,7 +30,7 @@ fn all_balanced(sums: [u16; 8], checks: usize, radix: usize) -> bool
 // Whether a row of n levels, all below q, is sound.
 pub fn is_balanced(shape: Shape, checks: usize, row: &[u8], matrix: &[u8; 255]) -> bool
     requires to_test { ToTest shape checks (length row.now) matrix.now }
-    requires row_value { every (λ v. ltb v (levelsOf shape)) row.now ≡ true }
+    requires row_value { every (λ v. ltb v (levels_of shape)) row.now ≡ true }
     ensures { result ≡ is_codeword shape (was row) }
 {
     let radix = shape.radix;
@@ -51,7 +51,7 @@ pub fn is_balanced(shape: Shape, checks: usize, row: &[u8], matrix: &[u8; 255]) 
 // Whether a row of n bytes, any bytes, is sound.
 pub fn is_sound(shape: Shape, checks: usize, levels: usize, row: &[u8], matrix: &[u8; 255]) -> bool
     requires to_test { ToTest shape checks (length row.now) matrix.now }
-    requires levels_value { levels ≡ levelsOf shape }
+    requires levels_value { levels ≡ levels_of shape }
     ensures { result ≡ is_codeword shape (was row) }
 {
     if !all_below(row, levels) {

@@ -6,7 +6,7 @@ ghost use Rattle.parity.specs.Lists.{tabulate};
 ghost use Rattle.parity.specs.Matrix.{bit};
 ghost use Rattle.shape.specs.Bounds.{Within};
 ghost use Rattle.shape.specs.Lent.{was, left};
-ghost use Rattle.acam.specs.Digits.{missing as missingOf, floor_sums};
+ghost use Rattle.acam.specs.Digits.{missing as missing_of, floor_sums};
 ghost use Rattle.acam.specs.Rows.{RoomFor, ToDivide, ToSum};
 
 // A value added to the sum of each check row that its column has a one in.
@@ -52,7 +52,7 @@ pub(crate) fn floor_sums(cells: &[u8], matrix: &[u8], power: usize) -> [u16; 8]
 // again, now with 2^32 / ρ + 1, exact for every sum of 16 bits; of a loop over sums the compiler takes the reciprocal out.
 pub(crate) fn missing(sum: u16, radix: usize) -> usize
     requires { Within 1 radix 256 }
-    ensures { result ≡ missingOf radix sum }
+    ensures { result ≡ missing_of radix sum }
 {
     let reciprocal = 4294967296 / radix + 1;
     let from = sum as usize;

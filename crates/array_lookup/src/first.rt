@@ -1,7 +1,7 @@
 // First match: the first row that a task lookup matches.
 ghost use Rattle.std.specs.Prelude.{◌≡◌, true, ltb, length};
 ghost use Rattle.parity.specs.Lists.{every};
-ghost use Rattle.parity.specs.Shape.{levels as levelsOf};
+ghost use Rattle.parity.specs.Shape.{levels as levels_of};
 ghost use Rattle.shape.specs.Lent.{was};
 ghost use Rattle.shape.specs.Answers.{first_says, accepted};
 ghost use Rattle.shape.specs.Shapes.{Passed};
@@ -55,7 +55,7 @@ fn find_match(
 // A first match whose questions have been passed, by inputs that are bytes below q.
 pub fn first_below(shape: Shape, sizes: Sizes, cells: &[u8], lines: &[u8], inputs: &[u8]) -> First
     requires passed { Passed (array_questions shape (length cells.now) (length lines.now) (first_arguments shape inputs.now)) shape sizes }
-    requires inputs_value { every (λ v. ltb v (levelsOf shape)) inputs.now ≡ true }
+    requires inputs_value { every (λ v. ltb v (levels_of shape)) inputs.now ≡ true }
     ensures { (mem : Memory) → first_call shape (was_array cells lines mem) (was inputs) ≡ first_says result }
 {
     let columns = sizes.columns;

@@ -1,5 +1,7 @@
 // The questions of the calls on the cells, on the lines and on the whole memory, asked in their order: each function gives the
 // shape's sizes, or the number of the first no.
+#![tactic(auto)]
+
 pub mod memory;
 
 ghost use Rattle.std.specs.Prelude.{◌≡◌};

@@ -1,4 +1,6 @@
 // The detection cycle of the sorting head's array: its record, and the calls that need it.
+#![tactic(auto)]
+
 pub mod calls;
 
 ghost use Rattle.std.specs.Prelude.{◌≡◌, cond, suc, leb};

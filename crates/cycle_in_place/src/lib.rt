@@ -1,4 +1,6 @@
 // The controller's own record, which is moved on in place.
+#![tactic(auto)]
+
 ghost use Rattle.std.specs.Prelude.{◌≡◌};
 ghost use Rattle.shape.specs.Answers.{outcome_says, giving};
 ghost use Rattle.shape.specs.Lent.{was, left};

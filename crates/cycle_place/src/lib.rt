@@ -1,5 +1,7 @@
 // The place of a lookup in the schedule, as a step works it out: passes over the columns, the numbers of the place, and
 // the walk from place to place.
+#![tactic(auto)]
+
 mod columns;
 pub mod digits;
 pub mod factors;

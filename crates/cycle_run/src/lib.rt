@@ -1,4 +1,6 @@
 // One whole detection cycle as one call.
+#![tactic(auto)]
+
 ghost use Rattle.std.specs.Prelude.{◌≡◌};
 ghost use Rattle.shape.specs.Lent.{was, left};
 ghost use Rattle.array_memory.specs.Buffers.{was_all, left_all};

@@ -1,4 +1,6 @@
 // What a caller has to know before he lends anything: the sizes of a shape, its blocks of rows, and the steps of a cycle.
+#![tactic(auto)]
+
 ghost use Rattle.std.specs.Prelude.{◌≡◌, ◌*◌, ◌≤◌, length};
 ghost use Rattle.parity.specs.Lists.{sum_over};
 ghost use Rattle.parity.specs.Matrix.{weight, cycle_steps};

@@ -1,5 +1,7 @@
 // Many steps of an open cycle as one call: the questions are asked, the check matrix is made and the record's place is looked up
 // once for all of them.
+#![tactic(auto)]
+
 ghost use Rattle.std.specs.Prelude.{◌≡◌, [], length};
 ghost use Rattle.parity.specs.Questions.{first_no};
 ghost use Rattle.shape.specs.Answers.{accepted, giving};

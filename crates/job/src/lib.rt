@@ -1,4 +1,6 @@
 // One job: bytes in, text out, on lent buffers.
+#![tactic(auto)]
+
 mod run;
 
 ghost use Rattle.std.specs.Prelude.{◌≡◌};

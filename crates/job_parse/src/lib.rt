@@ -1,4 +1,6 @@
 // The bytes of a job: its fields, and the questions that it is asked.
+#![tactic(auto)]
+
 pub mod questions;
 
 // 10: the most bytes that a job has.

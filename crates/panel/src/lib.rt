@@ -1,5 +1,7 @@
 // What the panel shows of the flagged rows: their number and the first of them, from the blocks' totals and one block of
 // flags at most. Below the call stands its act (`panel_lent`): what the call does where its questions have been passed.
+#![tactic(auto)]
+
 pub mod questions;
 
 ghost use Rattle.std.specs.Prelude.{◌≡◌, [], ◌∷◌, ◌≤◌, length};

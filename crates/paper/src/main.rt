@@ -1,6 +1,8 @@
 // The paper's figures for Example 1 (m = 512, k = 50), by the library: the reads of the naive way, Table I for q = 8
 // and q = 16, in radix 2 and with q for the radix, and the ones of the check matrix with more check columns (footnote 6).
 // What it prints is held to the paper's numbers in the file stdout.
+#![tactic(auto)]
+
 use acam::matrix::matrix_of;
 use cycle::Cycle;
 use cycle_run::run_cycle;

@@ -73,7 +73,7 @@ off : (c : ℕ) (xs : List ℕ) → Ordered xs → Among c xs → Off c xs (othe
 off c [] ordered a = absurd (not-suc-le-zero a.1)
 off c (x ∷ xs) ordered (zero, l, e) =
     let apart : Each (λ d. not (eqb d x) ≡ true) xs = λ j m. passes _ x (λ q. precedes-apart x _ (pairs-head Precedes x xs ordered j m) (sym q)) in
-    subst (λ (d : ℕ). Off d (x ∷ xs) (others d (x ∷ xs))) e (rw (eq-eqb x x refl, keep_all _ xs apart) (off-first x xs))
+    subst (λ (d : ℕ). Off d (x ∷ xs) (others d (x ∷ xs))) e (rw (eq-eqb x x refl, keep_all (λ d. not (eqb d x)) xs apart) (off-first x xs))
 off c (x ∷ xs) ordered (suc i, l, e) =
     let before : Precedes x c = subst (Precedes x) e (ordered zero (suc i) (zero-lt-suc i) l) in
     rw (passes x c (precedes-apart x c before))

@@ -1,5 +1,6 @@
 // The shape of an array and the plan of a detection cycle, any numbers in them. This crate holds no program code: the definitions of
 // document 01's lower part (specs/) and their theorems (proofs/), which the crates above cite.
+#![tactic(auto)]
 
 // The shape of an array: questions 1 to 5 of document 01 say which are taken.
 #[repr(C)]

@@ -1,5 +1,7 @@
 // The record as seven words: its phase (0 idle, 1 open, 2 complete), check, digit, column, factor, count and the digits
 // that it skips. Any other phase is read as idle.
+#![tactic(auto)]
+
 ghost use Rattle.std.specs.Prelude.{◌≡◌};
 ghost use Rattle.shape.specs.Answers.{outcome_says};
 ghost use Rattle.shape.specs.Lent.{was, left};

@@ -1,4 +1,6 @@
 // The router's questions, asked in their order: each function gives the shape's sizes, or the number of the first no.
+#![tactic(auto)]
+
 ghost use Rattle.std.specs.Prelude.{◌≡◌, leb};
 ghost use Rattle.parity.specs.Lists.{alongside};
 ghost use Rattle.parity.specs.Questions.{first_no};

@@ -1,5 +1,7 @@
 // Runs one job: reads it from standard input and writes what it prints to standard output. What fails on the way is said on
 // standard error, since a program in Rattle has no exit status of its own.
+#![tactic(auto)]
+
 ghost use Rattle.std.specs.Prelude.{◌≤◌, length};
 ghost use Rattle.shape.specs.Lent.{left};
 

@@ -1,6 +1,6 @@
 // The shape's questions 1 to 5 and the sizes that follow from a shape that is taken.
 ghost use Rattle.std.specs.Prelude.{◌≡◌, cond, ◌^◌, leb};
-ghost use Rattle.parity.specs.Shape.{largest, redundancy, levels as levelsOf};
+ghost use Rattle.parity.specs.Shape.{largest, redundancy, levels as levels_of};
 ghost use Rattle.parity.specs.Questions.{first_no, column_questions};
 ghost use Rattle.shape.specs.Bounds.{Within};
 ghost use Rattle.shape.specs.Shapes.{checked_says, sizes_if, shape_says};
@@ -111,7 +111,7 @@ fn least_checks(errors: usize, width: usize) -> usize
 
 // Questions 3 to 5 of a shape with q levels.
 fn check_columns(shape: Shape, levels: usize) -> Checked
-    requires { levels ≡ levelsOf shape }
+    requires { levels ≡ levels_of shape }
     ensures { checked_says result ≡ sizes_if (first_no (column_questions shape)) shape }
 {
     let errors = shape.errors;
