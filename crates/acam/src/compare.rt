@@ -3,7 +3,6 @@ ghost use Rattle.std.specs.Prelude.{◌≡◌, map, ◌%◌, ◌≤◌, leb, ltb
 ghost use Rattle.acam.specs.Cell.{all_reached, compared_byte, line_byte, cell_match};
 ghost use Rattle.parity.specs.Lists.{every};
 ghost use Rattle.parity.specs.Match.{line_gives};
-ghost use Rattle.shape.specs.Lent.{was, left};
 
 // The match rule, coded here and in `narrow` alone: a cell answers 1 to an input below q exactly when input ≤ cell.
 pub fn answers(input: u8, cell: u8) -> bool
@@ -17,8 +16,8 @@ pub fn answers(input: u8, cell: u8) -> bool
 pub fn narrow(inputs: &[u16], levels: usize, bytes: &mut [u8]) -> bool
     requires levels_bound { levels ≤ 256 }
     requires inputs_len { length inputs.now ≡ length bytes.old }
-    ensures below { result ≡ every (λ v. ltb v levels) (was inputs) }
-    ensures narrowed { left bytes ≡ map (λ v. v % 256) (was inputs) }
+    ensures below { result ≡ every (λ v. ltb v levels) inputs.now }
+    ensures narrowed { bytes.new ≡ map (λ v. v % 256) inputs.now }
 {
     let limit = levels as u16;
     let mut below = true;
@@ -35,7 +34,7 @@ pub fn narrow(inputs: &[u16], levels: usize, bytes: &mut [u8]) -> bool
 // Whether 16 cells all answer 1 to their inputs: no exit between them, so that they are compared at once.
 fn answer_all(inputs: &[u8], cells: &[u8]) -> bool
     requires { (length inputs.now ≡ 16) × (length cells.now ≡ 16) }
-    ensures { result ≡ all_reached (was inputs) (was cells) }
+    ensures { result ≡ all_reached inputs.now cells.now }
 {
     let mut all = true;
     let mut j: usize = 0;
@@ -49,7 +48,7 @@ fn answer_all(inputs: &[u8], cells: &[u8]) -> bool
 // The match byte of a few cells, one by one.
 fn match_each(inputs: &[u8], row: &[u8]) -> u8
     requires { length inputs.now ≤ length row.now }
-    ensures { result ≡ compared_byte (was inputs) (take (length (was inputs)) (was row)) }
+    ensures { result ≡ compared_byte inputs.now (take (length inputs.now) row.now) }
 {
     let mut j: usize = 0;
     while j < inputs.len() {
@@ -65,7 +64,7 @@ fn match_each(inputs: &[u8], row: &[u8]) -> u8
 // compared at a time: the first sixteen, and then those that end with the last, so that a few may be compared twice.
 pub fn match_byte(inputs: &[u8], row: &[u8]) -> u8
     requires { length inputs.now ≤ length row.now }
-    ensures { result ≡ compared_byte (was inputs) (take (length (was inputs)) (was row)) }
+    ensures { result ≡ compared_byte inputs.now (take (length inputs.now) row.now) }
 {
     if inputs.len() < 16 {
         return match_each(inputs, row);
@@ -98,7 +97,7 @@ pub fn line_gives(line: u8, said: u8) -> u8
 // tell, at a sound line with such inputs.
 pub fn line_match(line: u8, below: bool, inputs: &[u8], row: &[u8]) -> u8
     requires { length inputs.now ≤ length row.now }
-    ensures { result ≡ line_byte line below (was inputs) (take (length (was inputs)) (was row)) }
+    ensures { result ≡ line_byte line below inputs.now (take (length inputs.now) row.now) }
 {
     if line != 0 {
         return line_gives(line, 0);

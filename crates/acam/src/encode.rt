@@ -4,7 +4,6 @@ ghost use Rattle.parity.specs.Lists.{tabulate};
 ghost use Rattle.parity.specs.Codeword.{encode};
 ghost use Rattle.acam.specs.Digits.{completed};
 ghost use Rattle.acam.specs.Rows.{ToComplete, RulesLent, Measured};
-ghost use Rattle.shape.specs.Lent.{was, left};
 
 use super::matrix::fill_rules;
 use super::sums::{floor_sums, missing};
@@ -14,7 +13,7 @@ use shape::byte::{fill, wide};
 // One more digit in each check cell: what brings its check row's sum to 0 mod ρ, at ρ^s = power.
 fn add_check_digits(cells: &mut [u8], sums: [u16; 8], radix: usize, power: usize)
     requires { ToComplete cells.old sums radix power }
-    ensures { left cells ≡ tabulate (length (was cells)) (completed (was cells) sums radix power) }
+    ensures { cells.new ≡ tabulate (length cells.old) (completed cells.old sums radix power) }
 {
     let mut l: usize = 0;
     while l < cells.len() {
@@ -27,7 +26,7 @@ fn add_check_digits(cells: &mut [u8], sums: [u16; 8], radix: usize, power: usize
 // The check cells of a row of n cells, digit after digit, by the columns of its k rule cells.
 fn write_digits(shape: Shape, row: &mut [u8], rules: &[u8])
     requires { RulesLent shape (length row.old) rules.now }
-    ensures { left row ≡ encode shape (take shape.width (was row)) }
+    ensures { row.new ≡ encode shape (take shape.width row.old) }
 {
     let radix = shape.radix;
     let digits = shape.digits;
@@ -46,7 +45,7 @@ fn write_digits(shape: Shape, row: &mut [u8], rules: &[u8])
 // The check cells of a row of n cells, from its k rule cells. Of the check matrix it makes the columns of these alone.
 pub fn write_checks(shape: Shape, checks: usize, row: &mut [u8])
     requires { Measured shape checks (length row.old) }
-    ensures { left row ≡ encode shape (take shape.width (was row)) }
+    ensures { row.new ≡ encode shape (take shape.width row.old) }
 {
     let errors = shape.errors;
     let width = shape.width;

@@ -5,7 +5,6 @@ ghost use Rattle.parity.specs.Matrix.{column_order, eligible, rule_columns, chec
 ghost use Rattle.acam.specs.Matrices.{rule_weight, matrix_array};
 ghost use Rattle.acam.specs.Rows.{RulesFit, Measured, TakenWith};
 ghost use Rattle.shape.specs.Bounds.{Within};
-ghost use Rattle.shape.specs.Lent.{was, left};
 
 use super::order::{choices, column_order};
 use parity::Shape;
@@ -33,7 +32,7 @@ fn count_rules(errors: usize, weight: usize, columns: u8) -> usize
 // The lightest eligible columns, as many as the part holds: of each weight, the columns below 2^r come first.
 fn fill_lightest(part: &mut [u8], errors: usize, checks: usize)
     requires { checks ≤ 8 }
-    ensures { left part ≡ filled_from (keep (eligible errors checks) column_order) (was part) }
+    ensures { part.new ≡ filled_from (keep (eligible errors checks) column_order) part.old }
 {
     let order = column_order();
     let below = choices(checks);
@@ -57,7 +56,7 @@ fn fill_lightest(part: &mut [u8], errors: usize, checks: usize)
 // The rule columns, as many as the part holds: 1 in each for τ = 1, else the lightest eligible ones.
 pub(crate) fn fill_rules(part: &mut [u8], errors: usize, checks: usize)
     requires { RulesFit errors checks (length part.old) }
-    ensures { left part ≡ rule_columns errors checks (length (was part)) }
+    ensures { part.new ≡ rule_columns errors checks (length part.old) }
 {
     if errors == 1 {
         fill(part, 1);
@@ -68,7 +67,7 @@ pub(crate) fn fill_rules(part: &mut [u8], errors: usize, checks: usize)
 
 fn fill_checks(part: &mut [u8])
     requires { length part.old ≤ 8 }
-    ensures { left part ≡ check_columns (length (was part)) }
+    ensures { part.new ≡ check_columns (length part.old) }
 {
     let mut l: usize = 0;
     while l < part.len() {
@@ -80,7 +79,7 @@ fn fill_checks(part: &mut [u8])
 // The n columns of a shape that is taken with r check columns.
 pub fn fill_matrix(part: &mut [u8], shape: Shape, checks: usize)
     requires { Measured shape checks (length part.old) }
-    ensures { left part ≡ matrix_of shape }
+    ensures { part.new ≡ matrix_of shape }
 {
     let errors = shape.errors;
     let width = shape.width;

@@ -5,7 +5,6 @@ ghost use Rattle.parity.specs.Shape.{levels as levels_of};
 ghost use Rattle.parity.specs.Codeword.{is_codeword};
 ghost use Rattle.acam.specs.Rows.{ToTest};
 ghost use Rattle.shape.specs.Bounds.{Within};
-ghost use Rattle.shape.specs.Lent.{was};
 
 use super::sums::{floor_sums, missing};
 use parity::Shape;
@@ -31,7 +30,7 @@ fn all_balanced(sums: [u16; 8], checks: usize, radix: usize) -> bool
 pub fn is_balanced(shape: Shape, checks: usize, row: &[u8], matrix: &[u8; 255]) -> bool
     requires to_test { ToTest shape checks (length row.now) matrix.now }
     requires row_value { every (λ v. ltb v (levels_of shape)) row.now ≡ true }
-    ensures { result ≡ is_codeword shape (was row) }
+    ensures { result ≡ is_codeword shape row.now }
 {
     let radix = shape.radix;
     let digits = shape.digits;
@@ -52,7 +51,7 @@ pub fn is_balanced(shape: Shape, checks: usize, row: &[u8], matrix: &[u8; 255]) 
 pub fn is_sound(shape: Shape, checks: usize, levels: usize, row: &[u8], matrix: &[u8; 255]) -> bool
     requires to_test { ToTest shape checks (length row.now) matrix.now }
     requires levels_value { levels ≡ levels_of shape }
-    ensures { result ≡ is_codeword shape (was row) }
+    ensures { result ≡ is_codeword shape row.now }
 {
     if !all_below(row, levels) {
         return false;

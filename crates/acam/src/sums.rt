@@ -5,14 +5,13 @@ ghost use Rattle.std.specs.Prelude.{◌≡◌, ℕ, ◌+◌, ◌*◌, ◌/◌, �
 ghost use Rattle.parity.specs.Lists.{tabulate};
 ghost use Rattle.parity.specs.Matrix.{bit};
 ghost use Rattle.shape.specs.Bounds.{Within};
-ghost use Rattle.shape.specs.Lent.{was, left};
 ghost use Rattle.acam.specs.Digits.{missing as missing_of, floor_sums};
 ghost use Rattle.acam.specs.Rows.{RoomFor, ToDivide, ToSum};
 
 // A value added to the sum of each check row that its column has a one in.
 fn add_value(sums: &mut [u16; 8], column: u8, value: u16)
     requires { RoomFor sums.old value }
-    ensures { left sums ≡ tabulate 8 (λ l. get_or (was sums) l 0 + bit l column * value) }
+    ensures { sums.new ≡ tabulate 8 (λ l. get_or sums.old l 0 + bit l column * value) }
 {
     let mut rest = column as u16;
     let mut l: usize = 0;
@@ -35,7 +34,7 @@ fn quotient(value: u32, reciprocal: u32) -> u32
 // For each check row, the cells whose columns have a one there, each over ρ^s = power.
 pub(crate) fn floor_sums(cells: &[u8], matrix: &[u8], power: usize) -> [u16; 8]
     requires { ToSum (length cells.now) (length matrix.now) power }
-    ensures { result ≡ floor_sums (was cells) (was matrix) power }
+    ensures { result ≡ floor_sums cells.now matrix.now power }
 {
     let reciprocal = (65536 / power + 1) as u32;
     let mut sums = [0u16; 8];

@@ -1,10 +1,8 @@
 // Ask: what a row would become, before it goes live.
 ghost use Rattle.std.specs.Prelude.{◌≡◌, length};
-ghost use Rattle.shape.specs.Lent.{was, left};
 ghost use Rattle.shape.specs.Answers.{accepted, answer_says, giving};
 ghost use Rattle.shape.specs.Shapes.{Passed};
-ghost use Rattle.array_memory.specs.Memory.{Memory};
-ghost use Rattle.array_memory.specs.Buffers.{was_cells, left_cells};
+ghost use Rattle.array_memory.specs.Memory.{Memory, with_cells};
 ghost use Rattle.array_questions.specs.Questions.{cells_questions, ask_arguments};
 ghost use Rattle.array.specs.Calls.{ask_call};
 
@@ -24,8 +22,8 @@ pub fn ask_lent(
     finished: &mut [u8],
 ) -> usize
     requires { Passed (cells_questions shape (length cells.now) (ask_arguments shape row given.now (length finished.old))) shape sizes }
-    ensures { (mem : Memory) → ask_call shape (was_cells cells mem) row (was given) (was finished)
-        ≡ giving (accepted result) (left finished) (left_cells cells mem) }
+    ensures { (mem : Memory) → ask_call shape (with_cells cells.now mem) row given.now finished.old
+        ≡ giving (accepted result) finished.new (with_cells cells.now mem) }
 {
     let checks = sizes.checks;
     let columns = sizes.columns;
@@ -38,8 +36,8 @@ pub fn ask_lent(
 // Writes the finished row of these levels into the buffer, and answers in how many cells it differs from the row as it
 // stands. The array is lent to be read alone.
 pub fn ask(shape: Shape, cells: &[u8], row: usize, given: &[u8], finished: &mut [u8]) -> Answer
-    ensures { (mem : Memory) → ask_call shape (was_cells cells mem) row (was given) (was finished)
-        ≡ giving (answer_says result) (left finished) (left_cells cells mem) }
+    ensures { (mem : Memory) → ask_call shape (with_cells cells.now mem) row given.now finished.old
+        ≡ giving (answer_says result) finished.new (with_cells cells.now mem) }
 {
     match check_ask(shape, cells.len(), row, given, finished.len()) {
         Checked::Refused(number) => Answer::Refused(number),

@@ -1,10 +1,8 @@
 // The calls that look at one row of an array: sound and read.
 ghost use Rattle.std.specs.Prelude.{◌≡◌, length};
-ghost use Rattle.shape.specs.Lent.{was, left};
 ghost use Rattle.shape.specs.Answers.{accepted, verdict_says, outcome_says, giving};
 ghost use Rattle.shape.specs.Shapes.{Passed};
-ghost use Rattle.array_memory.specs.Memory.{Memory};
-ghost use Rattle.array_memory.specs.Buffers.{was_cells, left_cells};
+ghost use Rattle.array_memory.specs.Memory.{Memory, with_cells};
 ghost use Rattle.array_questions.specs.Questions.{cells_questions, sound_arguments, read_arguments};
 ghost use Rattle.array.specs.Calls.{sound_call, read_call};
 
@@ -18,7 +16,7 @@ use shape::sizes::{Checked, Sizes};
 
 pub fn sound_lent(shape: Shape, sizes: Sizes, cells: &[u8], row: usize) -> Verdict
     requires { Passed (cells_questions shape (length cells.now) (sound_arguments shape row)) shape sizes }
-    ensures { (mem : Memory) → sound_call shape (was_cells cells mem) row ≡ verdict_says result }
+    ensures { (mem : Memory) → sound_call shape (with_cells cells.now mem) row ≡ verdict_says result }
 {
     let levels = sizes.levels;
     let checks = sizes.checks;
@@ -34,7 +32,7 @@ pub fn sound_lent(shape: Shape, sizes: Sizes, cells: &[u8], row: usize) -> Verdi
 
 // Sound: whether a row of the array is sound.
 pub fn sound(shape: Shape, cells: &[u8], row: usize) -> Verdict
-    ensures { (mem : Memory) → sound_call shape (was_cells cells mem) row ≡ verdict_says result }
+    ensures { (mem : Memory) → sound_call shape (with_cells cells.now mem) row ≡ verdict_says result }
 {
     match check_sound(shape, cells.len(), row) {
         Checked::Refused(number) => Verdict::Refused(number),
@@ -44,7 +42,7 @@ pub fn sound(shape: Shape, cells: &[u8], row: usize) -> Verdict
 
 pub fn read_lent(shape: Shape, sizes: Sizes, cells: &[u8], row: usize, out: &mut [u8])
     requires { Passed (cells_questions shape (length cells.now) (read_arguments shape row (length out.old))) shape sizes }
-    ensures { (mem : Memory) → read_call shape (was_cells cells mem) row (was out) ≡ giving (accepted 0) (left out) (left_cells cells mem) }
+    ensures { (mem : Memory) → read_call shape (with_cells cells.now mem) row out.old ≡ giving (accepted 0) out.new (with_cells cells.now mem) }
 {
     let columns = sizes.columns;
     let width = shape.width;
@@ -55,7 +53,7 @@ pub fn read_lent(shape: Shape, sizes: Sizes, cells: &[u8], row: usize, out: &mut
 
 // Read: copies the k rule cells of a row out.
 pub fn read(shape: Shape, cells: &[u8], row: usize, out: &mut [u8]) -> Outcome
-    ensures { (mem : Memory) → read_call shape (was_cells cells mem) row (was out) ≡ giving (outcome_says result) (left out) (left_cells cells mem) }
+    ensures { (mem : Memory) → read_call shape (with_cells cells.now mem) row out.old ≡ giving (outcome_says result) out.new (with_cells cells.now mem) }
 {
     match check_read(shape, cells.len(), row, out.len()) {
         Checked::Refused(number) => Outcome::Refused(number),

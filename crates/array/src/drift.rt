@@ -2,8 +2,7 @@
 ghost use Rattle.std.specs.Prelude.{◌≡◌, [], length};
 ghost use Rattle.shape.specs.Answers.{accepted, outcome_says, giving};
 ghost use Rattle.shape.specs.Shapes.{Passed};
-ghost use Rattle.array_memory.specs.Memory.{Memory};
-ghost use Rattle.array_memory.specs.Buffers.{was_cells, left_cells};
+ghost use Rattle.array_memory.specs.Memory.{Memory, with_cells};
 ghost use Rattle.array_questions.specs.Questions.{cells_questions, drift_arguments};
 ghost use Rattle.array.specs.Calls.{drift_call};
 
@@ -21,7 +20,7 @@ pub fn drift_lent(
     level: u8,
 )
     requires { Passed (cells_questions shape (length cells.old) (drift_arguments shape row column level)) shape sizes }
-    ensures { (mem : Memory) → drift_call shape (was_cells cells mem) row column level ≡ giving (accepted 0) [] (left_cells cells mem) }
+    ensures { (mem : Memory) → drift_call shape (with_cells cells.old mem) row column level ≡ giving (accepted 0) [] (with_cells cells.new mem) }
 {
     let columns = sizes.columns;
     let at = row * columns + column;
@@ -29,7 +28,7 @@ pub fn drift_lent(
 }
 
 pub fn drift(shape: Shape, cells: &mut [u8], row: usize, column: usize, level: u8) -> Outcome
-    ensures { (mem : Memory) → drift_call shape (was_cells cells mem) row column level ≡ giving (outcome_says result) [] (left_cells cells mem) }
+    ensures { (mem : Memory) → drift_call shape (with_cells cells.old mem) row column level ≡ giving (outcome_says result) [] (with_cells cells.new mem) }
 {
     match check_drift(shape, cells.len(), row, column, level) {
         Checked::Refused(number) => Outcome::Refused(number),

@@ -2,8 +2,7 @@
 ghost use Rattle.std.specs.Prelude.{◌≡◌, [], length};
 ghost use Rattle.shape.specs.Answers.{accepted, outcome_says, giving};
 ghost use Rattle.shape.specs.Shapes.{Passed};
-ghost use Rattle.array_memory.specs.Memory.{Memory};
-ghost use Rattle.array_memory.specs.Buffers.{was_lines, left_lines};
+ghost use Rattle.array_memory.specs.Memory.{Memory, with_lines};
 ghost use Rattle.array_questions.specs.Questions.{lines_questions, line_arguments};
 ghost use Rattle.array.specs.Calls.{line_call};
 
@@ -14,13 +13,13 @@ use shape::sizes::{Checked, Sizes};
 
 pub fn line_lent(shape: Shape, sizes: Sizes, lines: &mut [u8], row: usize, byte: u8)
     requires { Passed (lines_questions shape (length lines.old) (line_arguments shape row byte)) shape sizes }
-    ensures { (mem : Memory) → line_call shape (was_lines lines mem) row byte ≡ giving (accepted 0) [] (left_lines lines mem) }
+    ensures { (mem : Memory) → line_call shape (with_lines lines.old mem) row byte ≡ giving (accepted 0) [] (with_lines lines.new mem) }
 {
     lines[row] = byte;
 }
 
 pub fn set_line(shape: Shape, lines: &mut [u8], row: usize, byte: u8) -> Outcome
-    ensures { (mem : Memory) → line_call shape (was_lines lines mem) row byte ≡ giving (outcome_says result) [] (left_lines lines mem) }
+    ensures { (mem : Memory) → line_call shape (with_lines lines.old mem) row byte ≡ giving (outcome_says result) [] (with_lines lines.new mem) }
 {
     match check_line(shape, lines.len(), row, byte) {
         Checked::Refused(number) => Outcome::Refused(number),

@@ -2,11 +2,9 @@
 ghost use Rattle.std.specs.Prelude.{◌≡◌, true, ltb, length};
 ghost use Rattle.parity.specs.Lists.{every};
 ghost use Rattle.parity.specs.Shape.{levels as levels_of};
-ghost use Rattle.shape.specs.Lent.{was};
 ghost use Rattle.shape.specs.Answers.{first_says, accepted};
 ghost use Rattle.shape.specs.Shapes.{Passed};
-ghost use Rattle.array_memory.specs.Memory.{Memory};
-ghost use Rattle.array_memory.specs.Buffers.{was_array};
+ghost use Rattle.array_memory.specs.Memory.{Memory, with_array};
 ghost use Rattle.array_lookup.specs.Lookups.{array_questions, first_arguments, first_row, first_call};
 ghost use Rattle.array_lookup.specs.Rows.{RowsLent, byte_of};
 
@@ -27,7 +25,7 @@ fn find_match(
     rows: usize,
 ) -> First
     requires { RowsLent (length cells.now) (length lines.now) (length inputs.now) columns rows }
-    ensures { first_says result ≡ accepted (first_row rows (byte_of below (was inputs) (was cells) (was lines) columns)) }
+    ensures { first_says result ≡ accepted (first_row rows (byte_of below inputs.now cells.now lines.now columns)) }
 {
     let width = inputs.len();
     'rows: for i in 0..rows {
@@ -56,7 +54,7 @@ fn find_match(
 pub fn first_below(shape: Shape, sizes: Sizes, cells: &[u8], lines: &[u8], inputs: &[u8]) -> First
     requires passed { Passed (array_questions shape (length cells.now) (length lines.now) (first_arguments shape inputs.now)) shape sizes }
     requires inputs_value { every (λ v. ltb v (levels_of shape)) inputs.now ≡ true }
-    ensures { (mem : Memory) → first_call shape (was_array cells lines mem) (was inputs) ≡ first_says result }
+    ensures { (mem : Memory) → first_call shape (with_array cells.now lines.now mem) inputs.now ≡ first_says result }
 {
     let columns = sizes.columns;
     let rows = shape.rows;
@@ -66,7 +64,7 @@ pub fn first_below(shape: Shape, sizes: Sizes, cells: &[u8], lines: &[u8], input
 // A first match whose questions have been passed: the inputs become bytes in an array of the call's own.
 pub fn first_lent(shape: Shape, sizes: Sizes, cells: &[u8], lines: &[u8], inputs: &[u16]) -> First
     requires { Passed (array_questions shape (length cells.now) (length lines.now) (first_arguments shape inputs.now)) shape sizes }
-    ensures { (mem : Memory) → first_call shape (was_array cells lines mem) (was inputs) ≡ first_says result }
+    ensures { (mem : Memory) → first_call shape (with_array cells.now lines.now mem) inputs.now ≡ first_says result }
 {
     let levels = sizes.levels;
     let columns = sizes.columns;
@@ -79,7 +77,7 @@ pub fn first_lent(shape: Shape, sizes: Sizes, cells: &[u8], lines: &[u8], inputs
 
 // First match: the number of the first row that a task lookup of the inputs would match.
 pub fn first_match(shape: Shape, cells: &[u8], lines: &[u8], inputs: &[u16]) -> First
-    ensures { (mem : Memory) → first_call shape (was_array cells lines mem) (was inputs) ≡ first_says result }
+    ensures { (mem : Memory) → first_call shape (with_array cells.now lines.now mem) inputs.now ≡ first_says result }
 {
     match check_first(shape, cells.len(), lines.len(), inputs) {
         Checked::Refused(number) => First::Refused(number),

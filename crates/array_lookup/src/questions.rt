@@ -1,7 +1,6 @@
 // The questions of the lookups, asked in their order: each function gives the shape's sizes, or the number of the first no.
 ghost use Rattle.std.specs.Prelude.{◌≡◌};
 ghost use Rattle.parity.specs.Questions.{first_no};
-ghost use Rattle.shape.specs.Lent.{was};
 ghost use Rattle.shape.specs.Shapes.{checked_says, sizes_if};
 ghost use Rattle.array_lookup.specs.Lookups.{array_questions, lookup_arguments, first_arguments};
 
@@ -17,7 +16,7 @@ pub fn check_lookup(
     inputs: &[u16],
     matches: usize,
 ) -> Checked
-    ensures { checked_says result ≡ sizes_if (first_no (array_questions shape cells lines (lookup_arguments shape (was inputs) matches))) shape }
+    ensures { checked_says result ≡ sizes_if (first_no (array_questions shape cells lines (lookup_arguments shape inputs.now matches))) shape }
 {
     let asked = check_shape(shape);
     let sizes = asked.sizes();
@@ -31,7 +30,7 @@ pub fn check_lookup(
 
 // First match.
 pub fn check_first(shape: Shape, cells: usize, lines: usize, inputs: &[u16]) -> Checked
-    ensures { checked_says result ≡ sizes_if (first_no (array_questions shape cells lines (first_arguments shape (was inputs)))) shape }
+    ensures { checked_says result ≡ sizes_if (first_no (array_questions shape cells lines (first_arguments shape inputs.now))) shape }
 {
     let asked = check_shape(shape);
     let sizes = asked.sizes();

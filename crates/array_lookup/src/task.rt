@@ -1,11 +1,9 @@
 // Task lookup: the match lines of all rows.
 ghost use Rattle.std.specs.Prelude.{◌≡◌, length};
 ghost use Rattle.parity.specs.Lists.{tabulate, sum_over};
-ghost use Rattle.shape.specs.Lent.{was, left};
 ghost use Rattle.shape.specs.Answers.{accepted, answer_says, giving};
 ghost use Rattle.shape.specs.Shapes.{Passed};
-ghost use Rattle.array_memory.specs.Memory.{Memory};
-ghost use Rattle.array_memory.specs.Buffers.{was_array, left_array};
+ghost use Rattle.array_memory.specs.Memory.{Memory, with_array};
 ghost use Rattle.array_lookup.specs.Lookups.{array_questions, lookup_arguments, lookup_call};
 ghost use Rattle.array_lookup.specs.Rows.{RowsLent, byte_of};
 
@@ -26,8 +24,8 @@ fn match_rows(
     matches: &mut [u8],
 ) -> usize
     requires { RowsLent (length cells.now) (length lines.now) (length inputs.now) columns (length matches.old) }
-    ensures counted { result ≡ sum_over (left matches) (λ byte. byte) }
-    ensures matched { left matches ≡ tabulate (length (was matches)) (byte_of below (was inputs) (was cells) (was lines) columns) }
+    ensures counted { result ≡ sum_over matches.new (λ byte. byte) }
+    ensures matched { matches.new ≡ tabulate (length matches.old) (byte_of below inputs.now cells.now lines.now columns) }
 {
     let mut count: usize = 0;
     let mut start: usize = 0;
@@ -55,8 +53,8 @@ pub fn lookup_lent(
 ) -> usize
     requires { Passed (array_questions shape (length cells.now) (length lines.now) (lookup_arguments shape inputs.now (length matches.old)))
         shape sizes }
-    ensures { (mem : Memory) → lookup_call shape (was_array cells lines mem) (was inputs) (was matches)
-        ≡ giving (accepted result) (left matches) (left_array cells lines mem) }
+    ensures { (mem : Memory) → lookup_call shape (with_array cells.now lines.now mem) inputs.now matches.old
+        ≡ giving (accepted result) matches.new (with_array cells.now lines.now mem) }
 {
     let levels = sizes.levels;
     let columns = sizes.columns;
@@ -74,8 +72,8 @@ pub fn lookup(
     inputs: &[u16],
     matches: &mut [u8],
 ) -> Answer
-    ensures { (mem : Memory) → lookup_call shape (was_array cells lines mem) (was inputs) (was matches)
-        ≡ giving (answer_says result) (left matches) (left_array cells lines mem) }
+    ensures { (mem : Memory) → lookup_call shape (with_array cells.now lines.now mem) inputs.now matches.old
+        ≡ giving (answer_says result) matches.new (with_array cells.now lines.now mem) }
 {
     match check_lookup(shape, cells.len(), lines.len(), inputs, matches.len()) {
         Checked::Refused(number) => Answer::Refused(number),

@@ -6,7 +6,6 @@ pub mod memory;
 
 ghost use Rattle.std.specs.Prelude.{◌≡◌};
 ghost use Rattle.parity.specs.Questions.{first_no};
-ghost use Rattle.shape.specs.Lent.{was};
 ghost use Rattle.shape.specs.Shapes.{checked_says, sizes_if};
 ghost use Rattle.array_questions.specs.Questions.{cells_questions, lines_questions, sound_arguments, read_arguments, drift_arguments};
 ghost use Rattle.array_questions.specs.Questions.{line_arguments, program_arguments, ask_arguments, commit_arguments};
@@ -67,7 +66,7 @@ pub fn check_line(shape: Shape, lines: usize, row: usize, byte: u8) -> Checked
 
 // Program.
 pub fn check_program(shape: Shape, cells: usize, row: usize, given: &[u8]) -> Checked
-    ensures { checked_says result ≡ sizes_if (first_no (cells_questions shape cells (program_arguments shape row (was given)))) shape }
+    ensures { checked_says result ≡ sizes_if (first_no (cells_questions shape cells (program_arguments shape row given.now))) shape }
 {
     let asked = check_shape(shape);
     let sizes = asked.sizes();
@@ -81,7 +80,7 @@ pub fn check_program(shape: Shape, cells: usize, row: usize, given: &[u8]) -> Ch
 
 // Ask.
 pub fn check_ask(shape: Shape, cells: usize, row: usize, given: &[u8], finished: usize) -> Checked
-    ensures { checked_says result ≡ sizes_if (first_no (cells_questions shape cells (ask_arguments shape row (was given) finished))) shape }
+    ensures { checked_says result ≡ sizes_if (first_no (cells_questions shape cells (ask_arguments shape row given.now finished))) shape }
 {
     let asked = check_shape(shape);
     let sizes = asked.sizes();
@@ -95,7 +94,7 @@ pub fn check_ask(shape: Shape, cells: usize, row: usize, given: &[u8], finished:
 
 // Commit: whether the row is sound is looked at only where its cells are n levels.
 pub fn check_commit(shape: Shape, cells: usize, row: usize, finished: &[u8]) -> Checked
-    ensures { checked_says result ≡ sizes_if (first_no (cells_questions shape cells (commit_arguments shape row (was finished)))) shape }
+    ensures { checked_says result ≡ sizes_if (first_no (cells_questions shape cells (commit_arguments shape row finished.now))) shape }
 {
     let asked = check_shape(shape);
     let sizes = asked.sizes();

@@ -4,11 +4,9 @@
 ghost use Rattle.std.specs.Prelude.{◌≡◌, [], length};
 ghost use Rattle.parity.specs.Questions.{first_no};
 ghost use Rattle.shape.specs.Answers.{accepted, giving};
-ghost use Rattle.shape.specs.Lent.{was, left};
 ghost use Rattle.shape.specs.Shapes.{Passed};
-ghost use Rattle.array_memory.specs.Buffers.{was_cells, left_cells, was_rows, left_rows, was_all, left_all, now_rows, now_all};
 ghost use Rattle.array_memory.specs.Lengths.{rows_lengths, all_lengths};
-ghost use Rattle.array_memory.specs.Memory.{Memory};
+ghost use Rattle.array_memory.specs.Memory.{Memory, no_memory, with_all, with_cells, with_rows};
 ghost use Rattle.array_questions.specs.Questions.{clear_questions, start_questions, lent_questions};
 ghost use Rattle.cycle_place.specs.Walk.{PaddedLent};
 ghost use Rattle.cycle.specs.declared.Cycle.{Cycle as CycleRecord};
@@ -59,9 +57,9 @@ pub fn clear_lent(
     flags: &mut [u8],
     totals: &mut [u8],
 )
-    requires { Passed (clear_questions shape (all_lengths (now_all cells lines counters flags totals))) shape sizes }
-    ensures { (mem : Memory) (cycle : CycleRecord) → clear_call shape (state_of (was_all cells lines counters flags totals mem) cycle)
-        ≡ giving (accepted 0) [] (state_of (left_all cells lines counters flags totals mem) idle) }
+    requires { Passed (clear_questions shape (all_lengths (with_all cells.old lines.old counters.old flags.old totals.old no_memory))) shape sizes }
+    ensures { (mem : Memory) (cycle : CycleRecord) → clear_call shape (state_of (with_all cells.old lines.old counters.old flags.old totals.old mem) cycle)
+        ≡ giving (accepted 0) [] (state_of (with_all cells.new lines.new counters.new flags.new totals.new mem) idle) }
 {
     fill(cells, 0);
     fill(lines, 0);
@@ -77,9 +75,9 @@ pub fn start_lent(
     flags: &mut [u8],
     totals: &mut [u8],
 ) -> Cycle
-    requires { Passed (start_questions shape skip (rows_lengths (now_rows counters flags totals))) shape sizes }
-    ensures { (mem : Memory) (cycle : CycleRecord) → start_call shape (state_of (was_rows counters flags totals mem) cycle) skip
-        ≡ giving (accepted 0) [] (state_of (left_rows counters flags totals mem) result) }
+    requires { Passed (start_questions shape skip (rows_lengths (with_rows counters.old flags.old totals.old no_memory))) shape sizes }
+    ensures { (mem : Memory) (cycle : CycleRecord) → start_call shape (state_of (with_rows counters.old flags.old totals.old mem) cycle) skip
+        ≡ giving (accepted 0) [] (state_of (with_rows counters.new flags.new totals.new mem) result) }
 {
     reset_rows(counters, flags, totals);
     Cycle::opening(skip)
@@ -96,8 +94,8 @@ impl Cycle {
         flags: &mut [u8],
         totals: &mut [u8],
     ) -> Changed
-        ensures { (mem : Memory) → clear_call shape (state_of (was_all cells lines counters flags totals mem) self)
-            ≡ changing result [] (left_all cells lines counters flags totals mem) }
+        ensures { (mem : Memory) → clear_call shape (state_of (with_all cells.old lines.old counters.old flags.old totals.old mem) self)
+            ≡ changing result [] (with_all cells.new lines.new counters.new flags.new totals.new mem) }
     {
         match check_clear(
             shape,
@@ -117,8 +115,8 @@ impl Cycle {
 
     // Program: writes a row of k levels with its check cells; the record becomes idle.
     pub fn program(self, shape: Shape, cells: &mut [u8], row: usize, given: &[u8]) -> Changed
-        ensures { (mem : Memory) → program_call shape (state_of (was_cells cells mem) self) row (was given)
-            ≡ changing result [] (left_cells cells mem) }
+        ensures { (mem : Memory) → program_call shape (state_of (with_cells cells.old mem) self) row given.now
+            ≡ changing result [] (with_cells cells.new mem) }
     {
         match check_program(shape, cells.len(), row, given) {
             Checked::Refused(number) => refused(self, number),
@@ -131,8 +129,8 @@ impl Cycle {
 
     // Commit: writes a finished row of n cells, as ask gives it; the record becomes idle.
     pub fn commit(self, shape: Shape, cells: &mut [u8], row: usize, finished: &[u8]) -> Changed
-        ensures { (mem : Memory) → commit_call shape (state_of (was_cells cells mem) self) row (was finished)
-            ≡ changing result [] (left_cells cells mem) }
+        ensures { (mem : Memory) → commit_call shape (state_of (with_cells cells.old mem) self) row finished.now
+            ≡ changing result [] (with_cells cells.new mem) }
     {
         match check_commit(shape, cells.len(), row, finished) {
             Checked::Refused(number) => refused(self, number),
@@ -153,8 +151,8 @@ impl Cycle {
         flags: &mut [u8],
         totals: &mut [u8],
     ) -> Changed
-        ensures { (mem : Memory) → start_call shape (state_of (was_rows counters flags totals mem) self) skip
-            ≡ changing result [] (left_rows counters flags totals mem) }
+        ensures { (mem : Memory) → start_call shape (state_of (with_rows counters.old flags.old totals.old mem) self) skip
+            ≡ changing result [] (with_rows counters.new flags.new totals.new mem) }
     {
         match check_start(shape, skip, counters.len(), flags.len(), totals.len()) {
             Checked::Refused(number) => refused(self, number),
@@ -176,8 +174,8 @@ impl Cycle {
         totals: &mut [u8],
         matches: &mut [u8],
     ) -> Changed
-        ensures { (mem : Memory) → step_call shape (state_of (was_all cells lines counters flags totals mem) self) (was matches)
-            ≡ changing result (left matches) (left_all cells lines counters flags totals mem) }
+        ensures { (mem : Memory) → step_call shape (state_of (with_all cells.now lines.now counters.old flags.old totals.old mem) self) matches.old
+            ≡ changing result matches.new (with_all cells.now lines.now counters.new flags.new totals.new mem) }
     {
         match check_lent(
             check_shape(shape),
@@ -208,9 +206,9 @@ impl Cycle {
         totals: &mut [u8],
         matches: &mut [u8],
     ) -> Changed
-        requires { Passed (lent_questions shape [] (all_lengths (now_all cells lines counters flags totals)) (length matches.old)) shape sizes }
-        ensures { (mem : Memory) → step_call shape (state_of (was_all cells lines counters flags totals mem) self) (was matches)
-            ≡ changing result (left matches) (left_all cells lines counters flags totals mem) }
+        requires { Passed (lent_questions shape [] (all_lengths (with_all cells.now lines.now counters.old flags.old totals.old no_memory)) (length matches.old)) shape sizes }
+        ensures { (mem : Memory) → step_call shape (state_of (with_all cells.now lines.now counters.old flags.old totals.old mem) self) matches.old
+            ≡ changing result matches.new (with_all cells.now lines.now counters.new flags.new totals.new mem) }
     {
         let columns = sizes.columns;
         let checks = sizes.checks;
@@ -246,9 +244,9 @@ impl Cycle {
         matches: &mut [u8],
     ) -> Changed
         requires padded_lent { PaddedLent shape checks columns padded.now }
-        requires matches_value { first_no (lent_questions shape [] (all_lengths (now_all cells lines counters flags totals)) (length matches.old)) ≡ 0 }
-        ensures { (mem : Memory) → step_call shape (state_of (was_all cells lines counters flags totals mem) self) (was matches)
-            ≡ changing result (left matches) (left_all cells lines counters flags totals mem) }
+        requires matches_value { first_no (lent_questions shape [] (all_lengths (with_all cells.now lines.now counters.old flags.old totals.old no_memory)) (length matches.old)) ≡ 0 }
+        ensures { (mem : Memory) → step_call shape (state_of (with_all cells.now lines.now counters.old flags.old totals.old mem) self) matches.old
+            ≡ changing result matches.new (with_all cells.now lines.now counters.new flags.new totals.new mem) }
     {
         match self.locate(shape, checks, columns, padded) {
             Located::Elsewhere => refused(self, 9),

@@ -3,9 +3,7 @@
 
 ghost use Rattle.std.specs.Prelude.{◌≡◌};
 ghost use Rattle.shape.specs.Answers.{outcome_says, giving};
-ghost use Rattle.shape.specs.Lent.{was, left};
-ghost use Rattle.array_memory.specs.Buffers.{was_all, left_all};
-ghost use Rattle.array_memory.specs.Memory.{Memory};
+ghost use Rattle.array_memory.specs.Memory.{Memory, with_all};
 ghost use Rattle.cycle.specs.Calls.{state_of, step_call};
 
 use cycle::Cycle;
@@ -24,8 +22,8 @@ pub fn step_in_place(
     totals: &mut [u8],
     matches: &mut [u8],
 ) -> Outcome
-    ensures { (mem : Memory) → step_call shape (state_of (was_all cells lines counters flags totals mem) (was cycle)) (was matches)
-        ≡ giving (outcome_says result) (left matches) (state_of (left_all cells lines counters flags totals mem) (left cycle)) }
+    ensures { (mem : Memory) → step_call shape (state_of (with_all cells.now lines.now counters.old flags.old totals.old mem) cycle.old) matches.old
+        ≡ giving (outcome_says result) matches.new (state_of (with_all cells.now lines.now counters.new flags.new totals.new mem) cycle.new) }
 {
     let before = *cycle;
     let stepped = before.step(shape, cells, lines, counters, flags, totals, matches);

@@ -1,9 +1,7 @@
 // A test's lookup, which feeds one column.
 ghost use Rattle.std.specs.Prelude.{◌≡◌, cond, ◌&&◌, length, replicate};
-ghost use Rattle.shape.specs.Lent.{was, left};
 ghost use Rattle.array_memory.specs.Blocks.{block_totals};
-ghost use Rattle.array_memory.specs.Memory.{Memory};
-ghost use Rattle.array_memory.specs.Buffers.{was_array, was_all, left_all, now_all};
+ghost use Rattle.array_memory.specs.Memory.{Memory, no_memory, with_all, with_array};
 ghost use Rattle.cycle_passes.specs.Passes.{column_cells, flagged_bytes};
 ghost use Rattle.cycle_place.specs.Walk.{test_of};
 ghost use Rattle.cycle_lookup.specs.Lookup.{entry_matches, looked_up};
@@ -22,9 +20,9 @@ use shape::byte::fill;
 // totals counted anew; after the last digit of a check row, the lowest that is not skipped, the counters return to 0.
 fn end_test(ends: bool, lowest: bool, counters: &mut [u8], flags: &mut [u8], totals: &mut [u8])
     requires { FlagsCounted (length counters.old) (length flags.old) (length totals.old) }
-    ensures counted { left counters ≡ cond (ends && lowest) (replicate (length (was counters)) 0) (was counters) }
-    ensures flagged { left flags ≡ cond ends (flagged_bytes (was counters) 0 (was flags)) (was flags) }
-    ensures totalled { left totals ≡ cond ends (block_totals (left flags)) (was totals) }
+    ensures counted { counters.new ≡ cond (ends && lowest) (replicate (length counters.old) 0) counters.old }
+    ensures flagged { flags.new ≡ cond ends (flagged_bytes counters.old 0 flags.old) flags.old }
+    ensures totalled { totals.new ≡ cond ends (block_totals flags.new) totals.old }
 {
     if !ends {
         return;
@@ -52,10 +50,10 @@ pub fn make_test(
     matches: &mut [u8],
 )
     requires test_next { TestNext skip shape place columns ends }
-    requires rows_lent { RowsLent shape (now_all cells lines counters flags totals) (length matches.old) }
-    ensures matched { (mem : Memory) → entry_matches shape (test_of skip shape place) (was_array cells lines mem) ≡ left matches }
+    requires rows_lent { RowsLent shape (with_all cells.now lines.now counters.old flags.old totals.old no_memory) (length matches.old) }
+    ensures matched { (mem : Memory) → entry_matches shape (test_of skip shape place) (with_array cells.now lines.now mem) ≡ matches.new }
     ensures stepped { (mem : Memory)
-        → looked_up shape (test_of skip shape place) (was_all cells lines counters flags totals mem) ≡ left_all cells lines counters flags totals mem }
+        → looked_up shape (test_of skip shape place) (with_all cells.now lines.now counters.old flags.old totals.old mem) ≡ with_all cells.now lines.now counters.new flags.new totals.new mem }
 {
     let radix = shape.radix;
     let digit = place.digit;
@@ -87,11 +85,11 @@ pub fn count_test(
     matches: &mut [u8],
 )
     requires test_next { TestNext skip shape place columns ends }
-    requires rows_lent { RowsLent shape (now_all cells lines counters flags totals) (length matches.old) }
+    requires rows_lent { RowsLent shape (with_all cells.now lines.now counters.old flags.old totals.old no_memory) (length matches.old) }
     requires holding { Holding shape place held unit cells.now counters.old matches.old }
-    ensures held { left matches ≡ column_cells columns place.column (was cells) (length (was matches)) }
+    ensures held { matches.new ≡ column_cells columns place.column cells.now (length matches.old) }
     ensures stepped { (mem : Memory)
-        → looked_up shape (test_of skip shape place) (was_all cells lines counters flags totals mem) ≡ left_all cells lines counters flags totals mem }
+        → looked_up shape (test_of skip shape place) (with_all cells.now lines.now counters.old flags.old totals.old mem) ≡ with_all cells.now lines.now counters.new flags.new totals.new mem }
 {
     let radix = shape.radix as u8;
     let digit = place.digit;

@@ -2,10 +2,8 @@
 ghost use Rattle.std.specs.Prelude.{◌≡◌, ◌≤◌, length};
 ghost use Rattle.parity.specs.Questions.{Taken};
 ghost use Rattle.parity.specs.declared.Shape.{Shape as ShapeOf};
-ghost use Rattle.shape.specs.Lent.{left};
-ghost use Rattle.array_memory.specs.Buffers.{was_lines, was_flagged, left_flagged};
 ghost use Rattle.array_memory.specs.Lengths.{Sized};
-ghost use Rattle.array_memory.specs.Memory.{Memory};
+ghost use Rattle.array_memory.specs.Memory.{Memory, with_flagged, with_lines};
 ghost use Rattle.cycle_lookup.specs.Lookup.{entry_matches, looked_up};
 ghost use Rattle.cycle_lookup.specs.Rows.{opening_of, FlagsLent};
 
@@ -18,10 +16,10 @@ use cycle_passes::totals::total_blocks;
 pub fn make_opening(byte: u8, lines: &[u8], flags: &mut [u8], totals: &mut [u8], matches: &mut [u8])
     requires byte_bound { byte ≤ 1 }
     requires flags_lent { FlagsLent (length lines.now) (length flags.old) (length totals.old) (length matches.old) }
-    ensures matched { (s : ShapeOf) → Taken s → (mem : Memory) → Sized s (was_lines lines mem)
-        → entry_matches s (opening_of s byte) (was_lines lines mem) ≡ left matches }
-    ensures opened { (s : ShapeOf) → Taken s → (mem : Memory) → Sized s (was_lines lines (was_flagged flags totals mem))
-        → looked_up s (opening_of s byte) (was_lines lines (was_flagged flags totals mem)) ≡ was_lines lines (left_flagged flags totals mem) }
+    ensures matched { (s : ShapeOf) → Taken s → (mem : Memory) → Sized s (with_lines lines.now mem)
+        → entry_matches s (opening_of s byte) (with_lines lines.now mem) ≡ matches.new }
+    ensures opened { (s : ShapeOf) → Taken s → (mem : Memory) → Sized s (with_lines lines.now (with_flagged flags.old totals.old mem))
+        → looked_up s (opening_of s byte) (with_lines lines.now (with_flagged flags.old totals.old mem)) ≡ with_lines lines.now (with_flagged flags.new totals.new mem) }
 {
     match_lines(lines, byte, matches);
     flag_rows(matches, byte, flags);

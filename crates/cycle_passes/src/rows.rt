@@ -1,7 +1,6 @@
 // The passes of a step over the rows.
 ghost use Rattle.std.specs.Prelude.{◌≡◌, ◌+◌, ◌%◌, ◌≤◌, ◌<◌, length, replicate};
 ghost use Rattle.shape.specs.Bounds.{Within};
-ghost use Rattle.shape.specs.Lent.{was, left};
 ghost use Rattle.cycle_passes.specs.Passes.{column_cells, reduced_bytes, column_matches, given_bytes, counted_bytes, flagged_bytes};
 ghost use Rattle.cycle_passes.specs.Passes.{ColumnLent, ToCount};
 
@@ -11,7 +10,7 @@ use shape::byte::{fill, largest, wide};
 // The cells of one column, row after row, from the first.
 pub fn take_down(cells: &[u8], columns: usize, column: usize, bytes: &mut [u8])
     requires { ColumnLent (length cells.now) columns column (length bytes.old) }
-    ensures { left bytes ≡ column_cells columns column (was cells) (length (was bytes)) }
+    ensures { bytes.new ≡ column_cells columns column cells.now (length bytes.old) }
 {
     let mut at = column;
     let mut i: usize = 0;
@@ -25,7 +24,7 @@ pub fn take_down(cells: &[u8], columns: usize, column: usize, bytes: &mut [u8])
 // The same, from the last row.
 fn take_up(cells: &[u8], columns: usize, column: usize, bytes: &mut [u8])
     requires { ColumnLent (length cells.now) columns column (length bytes.old) }
-    ensures { left bytes ≡ column_cells columns column (was cells) (length (was bytes)) }
+    ensures { bytes.new ≡ column_cells columns column cells.now (length bytes.old) }
 {
     let mut i = bytes.len();
     let mut at = i * columns + column;
@@ -40,7 +39,7 @@ fn take_up(cells: &[u8], columns: usize, column: usize, bytes: &mut [u8])
 // are at hand still.
 pub fn take_column(cells: &[u8], columns: usize, column: usize, up: bool, bytes: &mut [u8])
     requires { ColumnLent (length cells.now) columns column (length bytes.old) }
-    ensures { left bytes ≡ column_cells columns column (was cells) (length (was bytes)) }
+    ensures { bytes.new ≡ column_cells columns column cells.now (length bytes.old) }
 {
     if up {
         take_up(cells, columns, column, bytes);
@@ -53,7 +52,7 @@ pub fn take_column(cells: &[u8], columns: usize, column: usize, up: bool, bytes:
 pub fn hold_column(cells: &[u8], columns: usize, column: usize, held: usize, bytes: &mut [u8])
     requires column_lent { ColumnLent (length cells.now) columns column (length bytes.old) }
     requires bytes_value { column ≡ held → bytes.old ≡ column_cells columns column cells.now (length bytes.old) }
-    ensures { left bytes ≡ column_cells columns column (was cells) (length (was bytes)) }
+    ensures { bytes.new ≡ column_cells columns column cells.now (length bytes.old) }
 {
     if column == held {
         return;
@@ -64,7 +63,7 @@ pub fn hold_column(cells: &[u8], columns: usize, column: usize, held: usize, byt
 // Any bytes count by their remainders. Counters below ρ, as accepted steps leave them, are their own.
 pub fn reduce_rows(counters: &mut [u8], radix: usize)
     requires { Within 1 radix 255 }
-    ensures { left counters ≡ reduced_bytes radix (was counters) }
+    ensures { counters.new ≡ reduced_bytes radix counters.old }
 {
     if wide(largest(counters)) < radix {
         return;
@@ -90,8 +89,8 @@ fn add_match(counter: u8, byte: u8, radix: u8) -> u8
 // loop and the next each byte is chosen before its one store, so that they are compiled to vector code.
 pub fn count_matches(counters: &mut [u8], lines: &[u8], matches: &mut [u8], input: u8, radix: u8)
     requires { ToCount counters.old lines.now (length matches.old) radix }
-    ensures matched { left matches ≡ column_matches input (was lines) (was matches) }
-    ensures counted { left counters ≡ counted_bytes radix (was counters) (left matches) }
+    ensures matched { matches.new ≡ column_matches input lines.now matches.old }
+    ensures counted { counters.new ≡ counted_bytes radix counters.old matches.new }
 {
     let mut i: usize = 0;
     while i < counters.len() {
@@ -105,7 +104,7 @@ pub fn count_matches(counters: &mut [u8], lines: &[u8], matches: &mut [u8], inpu
 // The same by a column's cells that are kept, since the match bytes of this test are not asked for.
 pub fn count_column(counters: &mut [u8], lines: &[u8], column: &[u8], input: u8, radix: u8)
     requires { ToCount counters.old lines.now (length column.now) radix }
-    ensures { left counters ≡ counted_bytes radix (was counters) (column_matches input (was lines) (was column)) }
+    ensures { counters.new ≡ counted_bytes radix counters.old (column_matches input lines.now column.now) }
 {
     let mut i: usize = 0;
     while i < counters.len() {
@@ -118,7 +117,7 @@ pub fn count_column(counters: &mut [u8], lines: &[u8], column: &[u8], input: u8,
 // The match bytes alone, each in the place of its cell.
 pub fn match_column(lines: &[u8], matches: &mut [u8], input: u8)
     requires { length lines.now ≡ length matches.old }
-    ensures { left matches ≡ column_matches input (was lines) (was matches) }
+    ensures { matches.new ≡ column_matches input lines.now matches.old }
 {
     let mut i: usize = 0;
     while i < matches.len() {
@@ -132,7 +131,7 @@ pub fn match_column(lines: &[u8], matches: &mut [u8], input: u8)
 // The match byte of each row by its line alone, where every row's cells say the same.
 pub fn match_lines(lines: &[u8], said: u8, matches: &mut [u8])
     requires { length lines.now ≡ length matches.old }
-    ensures { left matches ≡ given_bytes said (was lines) (length (was matches)) }
+    ensures { matches.new ≡ given_bytes said lines.now (length matches.old) }
 {
     let mut i: usize = 0;
     while i < matches.len() {
@@ -145,7 +144,7 @@ pub fn match_lines(lines: &[u8], said: u8, matches: &mut [u8])
 // and 0 is quiet; at an opening it is the match byte, and quiet is the one that a sound line gives.
 pub fn flag_rows(signs: &[u8], quiet: u8, flags: &mut [u8])
     requires { length signs.now ≡ length flags.old }
-    ensures { left flags ≡ flagged_bytes (was signs) quiet (was flags) }
+    ensures { flags.new ≡ flagged_bytes signs.now quiet flags.old }
 {
     let mut i: usize = 0;
     while i < flags.len() {
@@ -159,9 +158,9 @@ pub fn flag_rows(signs: &[u8], quiet: u8, flags: &mut [u8])
 
 // Counters, flags and totals where a cycle begins: all 0.
 pub fn reset_rows(counters: &mut [u8], flags: &mut [u8], totals: &mut [u8])
-    ensures counted { left counters ≡ replicate (length (was counters)) 0 }
-    ensures flagged { left flags ≡ replicate (length (was flags)) 0 }
-    ensures totalled { left totals ≡ replicate (length (was totals)) 0 }
+    ensures counted { counters.new ≡ replicate (length counters.old) 0 }
+    ensures flagged { flags.new ≡ replicate (length flags.old) 0 }
+    ensures totalled { totals.new ≡ replicate (length totals.old) 0 }
 {
     fill(counters, 0);
     fill(flags, 0);

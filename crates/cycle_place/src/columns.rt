@@ -1,7 +1,6 @@
 // The passes of a step over the columns of the check matrix: where the ones of a check row are.
 ghost use Rattle.std.specs.Prelude.{◌≡◌, ◌^◌, ◌≤◌, ◌<◌, length};
 ghost use Rattle.parity.specs.Matrix.{places_from};
-ghost use Rattle.shape.specs.Lent.{was};
 ghost use Rattle.cycle_place.specs.Survey.{survey_of, held_from, ColumnsLent};
 
 use shape::byte::{power_of_two, wide};
@@ -26,7 +25,7 @@ fn mask_of(check: usize) -> u8
 // The columns with a one in check row ℓ. Counted in a byte, so that many columns are taken at once.
 fn count_held(matrix: &[u8], check: usize) -> usize
     requires { ColumnsLent matrix.now check }
-    ensures { result ≡ length (places_from 0 check (was matrix)) }
+    ensures { result ≡ length (places_from 0 check matrix.now) }
 {
     let mask = mask_of(check);
     let mut count: u8 = 0;
@@ -43,7 +42,7 @@ fn count_held(matrix: &[u8], check: usize) -> usize
 pub(crate) fn survey_check(matrix: &[u8], check: usize, column: usize) -> Survey
     requires columns_lent { ColumnsLent matrix.now check }
     requires column_in_bounds { column ≤ length matrix.now }
-    ensures { result ≡ survey_of (was matrix) check column }
+    ensures { result ≡ survey_of matrix.now check column }
 {
     let mut before: usize = 0;
     let mut l: usize = 0;
@@ -60,7 +59,7 @@ pub(crate) fn survey_check(matrix: &[u8], check: usize, column: usize) -> Survey
 pub(crate) fn next_held(matrix: &[u8], check: usize, from: usize) -> usize
     requires check_bound { check < 8 }
     requires from_in_bounds { from ≤ length matrix.now }
-    ensures { result ≡ held_from (was matrix) check from }
+    ensures { result ≡ held_from matrix.now check from }
 {
     let mask = mask_of(check);
     let mut j = from;

@@ -2,9 +2,7 @@
 #![tactic(auto)]
 
 ghost use Rattle.std.specs.Prelude.{◌≡◌};
-ghost use Rattle.shape.specs.Lent.{was, left};
-ghost use Rattle.array_memory.specs.Buffers.{was_all, left_all};
-ghost use Rattle.array_memory.specs.Memory.{Memory};
+ghost use Rattle.array_memory.specs.Memory.{Memory, with_all};
 ghost use Rattle.cycle.specs.Calls.{state_of};
 ghost use Rattle.cycle.specs.Methods.{changing};
 ghost use Rattle.cycle_run.specs.Cycles.{cycle_call};
@@ -28,8 +26,8 @@ pub fn run_cycle(
     totals: &mut [u8],
     matches: &mut [u8],
 ) -> Changed
-    ensures { (mem : Memory) → cycle_call shape (state_of (was_all cells lines counters flags totals mem) cycle) skip (was matches)
-        ≡ changing result (left matches) (left_all cells lines counters flags totals mem) }
+    ensures { (mem : Memory) → cycle_call shape (state_of (with_all cells.now lines.now counters.old flags.old totals.old mem) cycle) skip matches.old
+        ≡ changing result matches.new (with_all cells.now lines.now counters.new flags.new totals.new mem) }
 {
     match check_lent(
         check_shape(shape).check(15, skip < shape.digits),

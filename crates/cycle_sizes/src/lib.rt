@@ -5,7 +5,6 @@ ghost use Rattle.std.specs.Prelude.{◌≡◌, ◌*◌, ◌≤◌, length};
 ghost use Rattle.parity.specs.Lists.{sum_over};
 ghost use Rattle.parity.specs.Matrix.{weight, cycle_steps};
 ghost use Rattle.parity.specs.Questions.{first_no};
-ghost use Rattle.shape.specs.Lent.{was};
 ghost use Rattle.shape.specs.Shapes.{checked_says, sizes_if, Passed};
 ghost use Rattle.cycle_sizes.specs.Sizes.{sizes_questions, sizes_call, sized_says};
 
@@ -43,7 +42,7 @@ pub enum CycleSized {
 // The ones of so many columns.
 pub fn count_ones(columns: &[u8]) -> usize
     requires { length columns.now ≤ 255 }
-    ensures counted { result ≡ sum_over (was columns) weight }
+    ensures counted { result ≡ sum_over columns.now weight }
     ensures few { result ≤ 8 * 255 }
 {
     let mut sum: usize = 0;

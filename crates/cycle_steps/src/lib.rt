@@ -5,11 +5,9 @@
 ghost use Rattle.std.specs.Prelude.{◌≡◌, [], length};
 ghost use Rattle.parity.specs.Questions.{first_no};
 ghost use Rattle.shape.specs.Answers.{accepted, giving};
-ghost use Rattle.shape.specs.Lent.{was, left};
 ghost use Rattle.shape.specs.Shapes.{Passed};
-ghost use Rattle.array_memory.specs.Buffers.{was_all, left_all, now_all};
 ghost use Rattle.array_memory.specs.Lengths.{all_lengths};
-ghost use Rattle.array_memory.specs.Memory.{Memory};
+ghost use Rattle.array_memory.specs.Memory.{Memory, no_memory, with_all};
 ghost use Rattle.array_questions.specs.Questions.{lent_questions};
 ghost use Rattle.cycle_lookup.specs.Rows.{RowsLent};
 ghost use Rattle.cycle_passes.specs.Passes.{column_cells};
@@ -56,14 +54,14 @@ fn count_tests(
     matches: &mut [u8],
 ) -> Tested
     requires matrix_lent { MatrixLent shape checks matrix.now }
-    requires rows_lent { RowsLent shape (now_all cells lines counters flags totals) (length matches.old) }
+    requires rows_lent { RowsLent shape (with_all cells.now lines.now counters.old flags.old totals.old no_memory) (length matches.old) }
     requires lookups_left { LookupsLeft shape 2 cycle }
     requires column_held { ColumnHeld shape cycle.place.column cells.now counters.old matches.old }
     ensures stands { Stands cycle.skip shape result.last }
-    ensures held { left matches ≡ column_cells (length (was matrix)) result.last.column (was cells) (length (was matches)) }
+    ensures held { matches.new ≡ column_cells (length matrix.now) result.last.column cells.now (length matches.old) }
     ensures stepped { (mem : Memory)
-        → stepping shape most (tested_at cycle.skip shape cycle.place (was_all cells lines counters flags totals mem) cycle)
-        ≡ tested_at cycle.skip shape result.last (left_all cells lines counters flags totals mem) result.cycle }
+        → stepping shape most (tested_at cycle.skip shape cycle.place (with_all cells.now lines.now counters.old flags.old totals.old mem) cycle)
+        ≡ tested_at cycle.skip shape result.last (with_all cells.now lines.now counters.new flags.new totals.new mem) result.cycle }
 {
     let columns = matrix.len();
     let skip = cycle.skip;
@@ -114,11 +112,11 @@ fn make_tests(
     matches: &mut [u8],
 ) -> Cycle
     requires matrix_lent { MatrixLent shape checks matrix.now }
-    requires rows_lent { RowsLent shape (now_all cells lines counters flags totals) (length matches.old) }
+    requires rows_lent { RowsLent shape (with_all cells.now lines.now counters.old flags.old totals.old no_memory) (length matches.old) }
     requires lookups_left { LookupsLeft shape 2 cycle }
     ensures { (mem : Memory)
-        → stepping shape most (giving (accepted 0) (was matches) (state_of (was_all cells lines counters flags totals mem) cycle))
-        ≡ changing (done_with result) (left matches) (left_all cells lines counters flags totals mem) }
+        → stepping shape most (giving (accepted 0) matches.old (state_of (with_all cells.now lines.now counters.old flags.old totals.old mem) cycle))
+        ≡ changing (done_with result) matches.new (with_all cells.now lines.now counters.new flags.new totals.new mem) }
 {
     if most == 0 {
         return cycle;
@@ -151,11 +149,11 @@ fn make_rest(
     matches: &mut [u8],
 ) -> Cycle
     requires matrix_lent { MatrixLent shape checks matrix.now }
-    requires rows_lent { RowsLent shape (now_all cells lines counters flags totals) (length matches.old) }
+    requires rows_lent { RowsLent shape (with_all cells.now lines.now counters.old flags.old totals.old no_memory) (length matches.old) }
     requires lookups_left { LookupsLeft shape 1 cycle }
     ensures { (mem : Memory)
-        → stepping shape most (giving (accepted 0) (was matches) (state_of (was_all cells lines counters flags totals mem) cycle))
-        ≡ changing (done_with result) (left matches) (left_all cells lines counters flags totals mem) }
+        → stepping shape most (giving (accepted 0) matches.old (state_of (with_all cells.now lines.now counters.old flags.old totals.old mem) cycle))
+        ≡ changing (done_with result) matches.new (with_all cells.now lines.now counters.new flags.new totals.new mem) }
 {
     if cycle.count != 1 {
         return make_tests(
@@ -198,9 +196,9 @@ fn steps_at(
     matches: &mut [u8],
 ) -> Changed
     requires padded_lent { PaddedLent shape checks columns padded.now }
-    requires matches_value { first_no (lent_questions shape [] (all_lengths (now_all cells lines counters flags totals)) (length matches.old)) ≡ 0 }
-    ensures { (mem : Memory) → steps_call shape (state_of (was_all cells lines counters flags totals mem) cycle) most (was matches)
-        ≡ changing result (left matches) (left_all cells lines counters flags totals mem) }
+    requires matches_value { first_no (lent_questions shape [] (all_lengths (with_all cells.now lines.now counters.old flags.old totals.old no_memory)) (length matches.old)) ≡ 0 }
+    ensures { (mem : Memory) → steps_call shape (state_of (with_all cells.now lines.now counters.old flags.old totals.old mem) cycle) most matches.old
+        ≡ changing result matches.new (with_all cells.now lines.now counters.new flags.new totals.new mem) }
 {
     match cycle.locate(shape, checks, columns, padded) {
         Located::Elsewhere => refused(cycle, 9),
@@ -252,9 +250,9 @@ pub fn steps_lent(
     totals: &mut [u8],
     matches: &mut [u8],
 ) -> Changed
-    requires { Passed (lent_questions shape [] (all_lengths (now_all cells lines counters flags totals)) (length matches.old)) shape sizes }
-    ensures { (mem : Memory) → steps_call shape (state_of (was_all cells lines counters flags totals mem) cycle) most (was matches)
-        ≡ changing result (left matches) (left_all cells lines counters flags totals mem) }
+    requires { Passed (lent_questions shape [] (all_lengths (with_all cells.now lines.now counters.old flags.old totals.old no_memory)) (length matches.old)) shape sizes }
+    ensures { (mem : Memory) → steps_call shape (state_of (with_all cells.now lines.now counters.old flags.old totals.old mem) cycle) most matches.old
+        ≡ changing result matches.new (with_all cells.now lines.now counters.new flags.new totals.new mem) }
 {
     let columns = sizes.columns;
     let checks = sizes.checks;
@@ -289,8 +287,8 @@ pub fn steps(
     totals: &mut [u8],
     matches: &mut [u8],
 ) -> Changed
-    ensures { (mem : Memory) → steps_call shape (state_of (was_all cells lines counters flags totals mem) cycle) most (was matches)
-        ≡ changing result (left matches) (left_all cells lines counters flags totals mem) }
+    ensures { (mem : Memory) → steps_call shape (state_of (with_all cells.now lines.now counters.old flags.old totals.old mem) cycle) most matches.old
+        ≡ changing result matches.new (with_all cells.now lines.now counters.new flags.new totals.new mem) }
 {
     match check_lent(
         check_shape(shape),

@@ -4,7 +4,6 @@
 mod run;
 
 ghost use Rattle.std.specs.Prelude.{◌≡◌};
-ghost use Rattle.shape.specs.Lent.{was, left};
 ghost use Rattle.job.specs.Job.{enough, space, printed, job_call};
 
 use array_memory::blocks::{BLOCK, block_count};
@@ -68,8 +67,8 @@ pub fn job(
     matches: &mut [u8],
     out: &mut [u8],
 ) -> usize
-    ensures { job_call (was input) (space (was cells) (was lines) (was counters) (was flags) (was totals) (was matches) (was out))
-        ≡ printed result (space (left cells) (left lines) (left counters) (left flags) (left totals) (left matches) (left out)) }
+    ensures { job_call input.now (space cells.old lines.old counters.old flags.old totals.old matches.old out.old)
+        ≡ printed result (space cells.new lines.new counters.new flags.new totals.new matches.new out.new) }
 {
     if !has_room(
         cells.len(),

@@ -1,8 +1,6 @@
 // The calls of a job: clear, program every row, the drifts, one cycle.
 ghost use Rattle.std.specs.Prelude.{◌≡◌, length};
-ghost use Rattle.shape.specs.Lent.{was, left};
-ghost use Rattle.array_memory.specs.Buffers.{was_cells, left_cells, left_all, now_all};
-ghost use Rattle.array_memory.specs.Memory.{Memory, no_memory};
+ghost use Rattle.array_memory.specs.Memory.{Memory, no_memory, with_all, with_cells};
 ghost use Rattle.cycle_lookup.specs.Rows.{RowsLent};
 ghost use Rattle.cycle.specs.Record.{idle};
 ghost use Rattle.cycle.specs.Calls.{state_of};
@@ -21,8 +19,8 @@ use shape::byte::wide;
 // Programs every row with its levels.
 fn program_rows(input: &[u8], shape: Shape, cells: &mut [u8])
     requires { Ready input.now shape }
-    ensures { (mem : Memory) → after_programs (was input) shape.rows (state_of (was_cells cells mem) idle)
-        ≡ state_of (left_cells cells mem) idle }
+    ensures { (mem : Memory) → after_programs input.now shape.rows (state_of (with_cells cells.old mem) idle)
+        ≡ state_of (with_cells cells.new mem) idle }
 {
     let rows = shape.rows;
     let width = shape.width;
@@ -39,8 +37,8 @@ fn program_rows(input: &[u8], shape: Shape, cells: &mut [u8])
 // Applies the drifts, which stand at the end of the input.
 fn drift_cells(input: &[u8], shape: Shape, cells: &mut [u8])
     requires { Ready input.now shape }
-    ensures { (mem : Memory) → after_drifts (was input) (drift_count (was input)) (state_of (was_cells cells mem) idle)
-        ≡ state_of (left_cells cells mem) idle }
+    ensures { (mem : Memory) → after_drifts input.now (drift_count input.now) (state_of (with_cells cells.old mem) idle)
+        ≡ state_of (with_cells cells.new mem) idle }
 {
     let mut at = 13 + shape.rows * shape.width;
     while at < input.len() {
@@ -64,8 +62,8 @@ pub(crate) fn run_calls(
     matches: &mut [u8],
 ) -> Changed
     requires ready { Ready input.now shape }
-    requires rows_lent { RowsLent shape (now_all cells lines counters flags totals) (length matches.old) }
-    ensures { job_run (was input) ≡ changing result (left matches) (left_all cells lines counters flags totals no_memory) }
+    requires rows_lent { RowsLent shape (with_all cells.old lines.old counters.old flags.old totals.old no_memory) (length matches.old) }
+    ensures { job_run input.now ≡ changing result matches.new (with_all cells.new lines.new counters.new flags.new totals.new no_memory) }
 {
     Cycle::IDLE.clear(shape, cells, lines, counters, flags, totals);
     program_rows(input, shape, cells);

@@ -1,7 +1,6 @@
 // The fields of a job and its questions.
 ghost use Rattle.std.specs.Prelude.{◌≡◌, ◌+◌, ◌≤◌, ◌<◌, length};
 ghost use Rattle.parity.specs.Questions.{first_no};
-ghost use Rattle.shape.specs.Lent.{was};
 ghost use Rattle.shape.specs.Shapes.{checked_says, sizes_if};
 ghost use Rattle.job_parse.specs.Parse.{two_at, job_shape, drift_count, drift_start};
 ghost use Rattle.job_parse.specs.Parse.{frame_questions, contents_questions, drift_questions, job_refusal};
@@ -15,14 +14,14 @@ use shape::sizes::{Checked, Sizes, check_shape};
 // Two bytes, big-endian.
 pub fn two_at(input: &[u8], at: usize) -> usize
     requires { at + 1 < length input.now }
-    ensures { result ≡ two_at (was input) at }
+    ensures { result ≡ two_at input.now at }
 {
     wide(input[at]) * 256 + wide(input[at + 1])
 }
 
 // Questions 10, 11 and 12: the number of the first no, or 0.
 fn check_frame(input: &[u8]) -> u8
-    ensures { result ≡ first_no (frame_questions (was input)) }
+    ensures { result ≡ first_no (frame_questions input.now) }
 {
     if MAX_BYTES < input.len() {
         return 10;
@@ -44,7 +43,7 @@ fn check_frame(input: &[u8]) -> u8
 
 pub fn shape_of(input: &[u8]) -> Shape
     requires { 13 ≤ length input.now }
-    ensures { result ≡ job_shape (was input) }
+    ensures { result ≡ job_shape input.now }
 {
     Shape {
         radix: wide(input[5]),
@@ -58,7 +57,7 @@ pub fn shape_of(input: &[u8]) -> Shape
 // Questions 13 and 14, and 8 on all levels: the number of the first no, or 0.
 fn check_contents(input: &[u8], shape: Shape, sizes: Sizes) -> u8
     requires { Framed input.now shape sizes }
-    ensures { result ≡ first_no (contents_questions (was input)) }
+    ensures { result ≡ first_no (contents_questions input.now) }
 {
     let rows = shape.rows;
     let width = shape.width;
@@ -85,7 +84,7 @@ fn check_contents(input: &[u8], shape: Shape, sizes: Sizes) -> u8
 fn check_drifts(input: &[u8], shape: Shape, sizes: Sizes) -> u8
     requires framed { Framed input.now shape sizes }
     requires input_len { length input.now ≡ drift_start input.now (drift_count input.now) }
-    ensures { result ≡ first_no (drift_questions (was input)) }
+    ensures { result ≡ first_no (drift_questions input.now) }
 {
     let rows = shape.rows;
     let columns = sizes.columns;
@@ -108,7 +107,7 @@ fn check_drifts(input: &[u8], shape: Shape, sizes: Sizes) -> u8
 
 // All the questions of a job: its sizes, or the number of the first no.
 pub fn check_job(input: &[u8]) -> Checked
-    ensures { checked_says result ≡ sizes_if (job_refusal (was input)) (job_shape (was input)) }
+    ensures { checked_says result ≡ sizes_if (job_refusal input.now) (job_shape input.now) }
 {
     let frame = check_frame(input);
     if frame != 0 {

@@ -1,6 +1,5 @@
 // The text of a job, written into a lent buffer. Each function gives the place after what it wrote.
 ghost use Rattle.std.specs.Prelude.{◌≡◌, ◌++◌, ◌+◌, ◌*◌, ◌≤◌, length};
-ghost use Rattle.shape.specs.Lent.{was, left};
 ghost use Rattle.job_text.specs.Text.{decimal, refused_text, head_text, row_text, rows_text};
 ghost use Rattle.job_text.specs.Written.{Wrote};
 
@@ -8,7 +7,7 @@ use shape::byte::copy;
 
 fn put(out: &mut [u8], at: usize, word: &[u8]) -> usize
     requires { at + length word.now ≤ length out.old }
-    ensures { Wrote at (was word) (was out) result (left out) }
+    ensures { Wrote at word.now out.old result out.new }
 {
     let end = at + word.len();
     copy(word, &mut out[at..end]);
@@ -31,7 +30,7 @@ fn digit_count(number: usize) -> usize
 // A number in base ten, of at most 20 digits, from its last digit to its first.
 fn put_number(out: &mut [u8], at: usize, number: usize) -> usize
     requires { at + 20 ≤ length out.old }
-    ensures { Wrote at (decimal number) (was out) result (left out) }
+    ensures { Wrote at (decimal number) out.old result out.new }
 {
     let count = digit_count(number);
     let mut rest = number;
@@ -47,7 +46,7 @@ fn put_number(out: &mut [u8], at: usize, number: usize) -> usize
 // A word, and then a number.
 fn put_item(out: &mut [u8], at: usize, word: &[u8], number: usize) -> usize
     requires { at + length word.now + 20 ≤ length out.old }
-    ensures { Wrote at (was word ++ decimal number) (was out) result (left out) }
+    ensures { Wrote at (word.now ++ decimal number) out.old result out.new }
 {
     let end = put(out, at, word);
     put_number(out, end, number)
@@ -56,7 +55,7 @@ fn put_item(out: &mut [u8], at: usize, word: &[u8], number: usize) -> usize
 // The line of a refusal.
 pub fn put_refusal(out: &mut [u8], number: u8) -> usize
     requires { 40 ≤ length out.old }
-    ensures { Wrote 0 (refused_text number) (was out) result (left out) }
+    ensures { Wrote 0 (refused_text number) out.old result out.new }
 {
     let end = put_item(out, 0, b"refused ", number as usize);
     put(out, end, b"\n")
@@ -65,7 +64,7 @@ pub fn put_refusal(out: &mut [u8], number: u8) -> usize
 // The first line.
 pub fn put_head(out: &mut [u8], levels: usize, columns: usize, count: usize) -> usize
     requires { 100 ≤ length out.old }
-    ensures { Wrote 0 (head_text levels columns count) (was out) result (left out) }
+    ensures { Wrote 0 (head_text levels columns count) out.old result out.new }
 {
     let first = put_item(out, 0, b"levels ", levels);
     let second = put_item(out, first, b" columns ", columns);
@@ -76,7 +75,7 @@ pub fn put_head(out: &mut [u8], levels: usize, columns: usize, count: usize) -> 
 // The line of a row.
 fn put_row(out: &mut [u8], at: usize, row: usize, flag: u8) -> usize
     requires { at + 40 ≤ length out.old }
-    ensures { Wrote at (row_text row flag) (was out) result (left out) }
+    ensures { Wrote at (row_text row flag) out.old result out.new }
 {
     let end = put_item(out, at, b"row ", row);
     if flag == 0 {
@@ -88,7 +87,7 @@ fn put_row(out: &mut [u8], at: usize, row: usize, flag: u8) -> usize
 // One line for each row.
 pub fn put_rows(out: &mut [u8], at: usize, flags: &[u8]) -> usize
     requires { at + 40 * length flags.now ≤ length out.old }
-    ensures { Wrote at (rows_text (length (was flags)) (was flags)) (was out) result (left out) }
+    ensures { Wrote at (rows_text (length flags.now) flags.now) out.old result out.new }
 {
     let mut end = at;
     let mut row: usize = 0;

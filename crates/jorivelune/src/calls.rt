@@ -1,9 +1,7 @@
 // The calls that have the record. A refused call leaves the words and every buffer as they were.
 ghost use Rattle.std.specs.Prelude.{◌≡◌, []};
 ghost use Rattle.shape.specs.Answers.{giving};
-ghost use Rattle.shape.specs.Lent.{was, left};
-ghost use Rattle.array_memory.specs.Buffers.{was_cells, left_cells, was_rows, left_rows, was_all, left_all};
-ghost use Rattle.array_memory.specs.Memory.{Memory};
+ghost use Rattle.array_memory.specs.Memory.{Memory, with_all, with_cells, with_rows};
 ghost use Rattle.cycle.specs.Calls.{clear_call, program_call, commit_call, start_call, step_call};
 ghost use Rattle.cycle_run.specs.Cycles.{cycle_call};
 ghost use Rattle.cycle_steps.specs.Steps.{steps_call};
@@ -26,8 +24,8 @@ pub extern "C" fn jorivelune_clear(
     flags: &mut [u8],
     totals: &mut [u8],
 ) -> u8
-    ensures { (mem : Memory) → on_words (clear_call shape) (was_all cells lines counters flags totals mem) (was words)
-        ≡ giving (telling result 0) [] (stored_of (left_all cells lines counters flags totals mem) (left words)) }
+    ensures { (mem : Memory) → on_words (clear_call shape) (with_all cells.old lines.old counters.old flags.old totals.old mem) words.old
+        ≡ giving (telling result 0) [] (stored_of (with_all cells.new lines.new counters.new flags.new totals.new mem) words.new) }
 {
     let cycle = cycle_of(words);
     store(
@@ -45,8 +43,8 @@ pub extern "C" fn jorivelune_program(
     row: usize,
     levels: &[u8],
 ) -> u8
-    ensures { (mem : Memory) → on_words (λ st. program_call shape st row (was levels)) (was_cells cells mem) (was words)
-        ≡ giving (telling result 0) [] (stored_of (left_cells cells mem) (left words)) }
+    ensures { (mem : Memory) → on_words (λ st. program_call shape st row levels.now) (with_cells cells.old mem) words.old
+        ≡ giving (telling result 0) [] (stored_of (with_cells cells.new mem) words.new) }
 {
     let cycle = cycle_of(words);
     store(words, cycle.program(shape, cells, row, levels))
@@ -61,8 +59,8 @@ pub extern "C" fn jorivelune_commit(
     row: usize,
     finished: &[u8],
 ) -> u8
-    ensures { (mem : Memory) → on_words (λ st. commit_call shape st row (was finished)) (was_cells cells mem) (was words)
-        ≡ giving (telling result 0) [] (stored_of (left_cells cells mem) (left words)) }
+    ensures { (mem : Memory) → on_words (λ st. commit_call shape st row finished.now) (with_cells cells.old mem) words.old
+        ≡ giving (telling result 0) [] (stored_of (with_cells cells.new mem) words.new) }
 {
     let cycle = cycle_of(words);
     store(words, cycle.commit(shape, cells, row, finished))
@@ -79,8 +77,8 @@ pub extern "C" fn jorivelune_start(
     flags: &mut [u8],
     totals: &mut [u8],
 ) -> u8
-    ensures { (mem : Memory) → on_words (λ st. start_call shape st skip) (was_rows counters flags totals mem) (was words)
-        ≡ giving (telling result 0) [] (stored_of (left_rows counters flags totals mem) (left words)) }
+    ensures { (mem : Memory) → on_words (λ st. start_call shape st skip) (with_rows counters.old flags.old totals.old mem) words.old
+        ≡ giving (telling result 0) [] (stored_of (with_rows counters.new flags.new totals.new mem) words.new) }
 {
     let cycle = cycle_of(words);
     store(words, cycle.start(shape, skip, counters, flags, totals))
@@ -99,9 +97,9 @@ pub extern "C" fn jorivelune_step(
     totals: &mut [u8],
     matches: &mut [u8],
 ) -> u8
-    ensures { (mem : Memory) → on_words (λ st. step_call shape st (was matches))
-        (was_all cells lines counters flags totals mem) (was words)
-        ≡ giving (telling result 0) (left matches) (stored_of (left_all cells lines counters flags totals mem) (left words)) }
+    ensures { (mem : Memory) → on_words (λ st. step_call shape st matches.old)
+        (with_all cells.now lines.now counters.old flags.old totals.old mem) words.old
+        ≡ giving (telling result 0) matches.new (stored_of (with_all cells.now lines.now counters.new flags.new totals.new mem) words.new) }
 {
     let cycle = cycle_of(words);
     store(
@@ -123,9 +121,9 @@ pub extern "C" fn jorivelune_steps(
     totals: &mut [u8],
     matches: &mut [u8],
 ) -> u8
-    ensures { (mem : Memory) → on_words (λ st. steps_call shape st most (was matches))
-        (was_all cells lines counters flags totals mem) (was words)
-        ≡ giving (telling result 0) (left matches) (stored_of (left_all cells lines counters flags totals mem) (left words)) }
+    ensures { (mem : Memory) → on_words (λ st. steps_call shape st most matches.old)
+        (with_all cells.now lines.now counters.old flags.old totals.old mem) words.old
+        ≡ giving (telling result 0) matches.new (stored_of (with_all cells.now lines.now counters.new flags.new totals.new mem) words.new) }
 {
     let cycle = cycle_of(words);
     store(
@@ -149,9 +147,9 @@ pub extern "C" fn jorivelune_run(
     totals: &mut [u8],
     matches: &mut [u8],
 ) -> u8
-    ensures { (mem : Memory) → on_words (λ st. cycle_call shape st skip (was matches))
-        (was_all cells lines counters flags totals mem) (was words)
-        ≡ giving (telling result 0) (left matches) (stored_of (left_all cells lines counters flags totals mem) (left words)) }
+    ensures { (mem : Memory) → on_words (λ st. cycle_call shape st skip matches.old)
+        (with_all cells.now lines.now counters.old flags.old totals.old mem) words.old
+        ≡ giving (telling result 0) matches.new (stored_of (with_all cells.now lines.now counters.new flags.new totals.new mem) words.new) }
 {
     let cycle = cycle_of(words);
     store(

@@ -1,9 +1,7 @@
 // The calls without the record: on cells and lines. A refused call leaves every buffer as it was.
 ghost use Rattle.std.specs.Prelude.{◌≡◌, []};
 ghost use Rattle.shape.specs.Answers.{answer_says, outcome_says, giving};
-ghost use Rattle.shape.specs.Lent.{was, left};
-ghost use Rattle.array_memory.specs.Buffers.{was_cells, left_cells, was_lines, left_lines, was_array, left_array};
-ghost use Rattle.array_memory.specs.Memory.{Memory};
+ghost use Rattle.array_memory.specs.Memory.{Memory, with_array, with_cells, with_lines};
 ghost use Rattle.array.specs.Calls.{ask_call, drift_call, line_call, read_call, sound_call};
 ghost use Rattle.array_lookup.specs.Lookups.{lookup_call, first_call};
 ghost use Rattle.jorivelune.specs.Numbers.{telling, found_says};
@@ -29,7 +27,7 @@ fn number_of(outcome: Outcome) -> u8
 // The number of an answer, whose value goes behind the pointer: 0 where the call is refused.
 fn tell(answer: Answer, value: &mut usize) -> u8
     ensures numbered { result ≡ (answer_says answer).number }
-    ensures valued { left value ≡ (answer_says answer).value }
+    ensures valued { value.new ≡ (answer_says answer).value }
 {
     match answer {
         Answer::Is(number) => {
@@ -52,8 +50,8 @@ pub extern "C" fn jorivelune_drift(
     column: usize,
     level: u8,
 ) -> u8
-    ensures { (mem : Memory) → drift_call shape (was_cells cells mem) row column level
-        ≡ giving (telling result 0) [] (left_cells cells mem) }
+    ensures { (mem : Memory) → drift_call shape (with_cells cells.old mem) row column level
+        ≡ giving (telling result 0) [] (with_cells cells.new mem) }
 {
     number_of(drift(shape, cells, row, column, level))
 }
@@ -61,8 +59,8 @@ pub extern "C" fn jorivelune_drift(
 // Line: one row's match line becomes sound, 0, dead, 1, or shorted, 2, and nothing else changes.
 #[unsafe(no_mangle)]
 pub extern "C" fn jorivelune_line(shape: Shape, lines: &mut [u8], row: usize, byte: u8) -> u8
-    ensures { (mem : Memory) → line_call shape (was_lines lines mem) row byte
-        ≡ giving (telling result 0) [] (left_lines lines mem) }
+    ensures { (mem : Memory) → line_call shape (with_lines lines.old mem) row byte
+        ≡ giving (telling result 0) [] (with_lines lines.new mem) }
 {
     number_of(set_line(shape, lines, row, byte))
 }
@@ -70,8 +68,8 @@ pub extern "C" fn jorivelune_line(shape: Shape, lines: &mut [u8], row: usize, by
 // Read: copies the k rule cells of a row out.
 #[unsafe(no_mangle)]
 pub extern "C" fn jorivelune_read(shape: Shape, cells: &[u8], row: usize, out: &mut [u8]) -> u8
-    ensures { (mem : Memory) → read_call shape (was_cells cells mem) row (was out)
-        ≡ giving (telling result 0) (left out) (left_cells cells mem) }
+    ensures { (mem : Memory) → read_call shape (with_cells cells.now mem) row out.old
+        ≡ giving (telling result 0) out.new (with_cells cells.now mem) }
 {
     number_of(read(shape, cells, row, out))
 }
@@ -87,8 +85,8 @@ pub extern "C" fn jorivelune_ask(
     finished: &mut [u8],
     changed: &mut usize,
 ) -> u8
-    ensures { (mem : Memory) → ask_call shape (was_cells cells mem) row (was levels) (was finished)
-        ≡ giving (telling result (left changed)) (left finished) (left_cells cells mem) }
+    ensures { (mem : Memory) → ask_call shape (with_cells cells.now mem) row levels.now finished.old
+        ≡ giving (telling result changed.new) finished.new (with_cells cells.now mem) }
 {
     tell(ask(shape, cells, row, levels, finished), changed)
 }
@@ -104,8 +102,8 @@ pub extern "C" fn jorivelune_lookup(
     matches: &mut [u8],
     count: &mut usize,
 ) -> u8
-    ensures { (mem : Memory) → lookup_call shape (was_array cells lines mem) (was inputs) (was matches)
-        ≡ giving (telling result (left count)) (left matches) (left_array cells lines mem) }
+    ensures { (mem : Memory) → lookup_call shape (with_array cells.now lines.now mem) inputs.now matches.old
+        ≡ giving (telling result count.new) matches.new (with_array cells.now lines.now mem) }
 {
     tell(lookup(shape, cells, lines, inputs, matches), count)
 }
@@ -120,8 +118,8 @@ pub extern "C" fn jorivelune_first_match(
     inputs: &[u16],
     found: &mut usize,
 ) -> u8
-    ensures { (mem : Memory) → found_says shape.rows (first_call shape (was_array cells lines mem) (was inputs))
-        ≡ telling result (left found) }
+    ensures { (mem : Memory) → found_says shape.rows (first_call shape (with_array cells.now lines.now mem) inputs.now)
+        ≡ telling result found.new }
 {
     match first_match(shape, cells, lines, inputs) {
         First::Row(row) => {
@@ -142,7 +140,7 @@ pub extern "C" fn jorivelune_first_match(
 // Sound: whether the row is sound goes to `holds`, false where the call is refused.
 #[unsafe(no_mangle)]
 pub extern "C" fn jorivelune_sound(shape: Shape, cells: &[u8], row: usize, holds: &mut bool) -> u8
-    ensures { (mem : Memory) → sound_call shape (was_cells cells mem) row ≡ telling result (left holds) }
+    ensures { (mem : Memory) → sound_call shape (with_cells cells.now mem) row ≡ telling result holds.new }
 {
     match sound(shape, cells, row) {
         Verdict::Yes => {

@@ -1,9 +1,7 @@
 // The router's calls: belt rules as ranges of values. A refused call leaves the words and every buffer as they were.
 ghost use Rattle.std.specs.Prelude.{◌≡◌, []};
 ghost use Rattle.shape.specs.Answers.{giving};
-ghost use Rattle.shape.specs.Lent.{was, left};
-ghost use Rattle.array_memory.specs.Buffers.{was_cells, left_cells, was_array};
-ghost use Rattle.array_memory.specs.Memory.{Memory};
+ghost use Rattle.array_memory.specs.Memory.{Memory, with_array, with_cells};
 ghost use Rattle.router_ranges.specs.Ranges.{ranges_of, rule_of};
 ghost use Rattle.router.specs.Calls.{rule_call, rule_at_call};
 ghost use Rattle.router.specs.Routes.{route_call};
@@ -30,8 +28,8 @@ pub extern "C" fn jorivelune_rule(
     belt: u8,
 ) -> u8
     ensures { (mem : Memory)
-        → on_router (λ st. rule_call shape st row (rule_of (was lows) (was highs) belt)) (was_cells cells mem) (was words) (was belts)
-        ≡ giving (telling result 0) [] (stored_router (left_cells cells mem) (left words) (left belts)) }
+        → on_router (λ st. rule_call shape st row (rule_of lows.now highs.now belt)) (with_cells cells.old mem) words.old belts.old
+        ≡ giving (telling result 0) [] (stored_router (with_cells cells.new mem) words.new belts.new) }
 {
     let cycle = cycle_of(words);
     store(
@@ -52,8 +50,8 @@ pub extern "C" fn jorivelune_route(
     found: &mut usize,
     belt: &mut u8,
 ) -> u8
-    ensures { (mem : Memory) → sent_says shape.rows (route_call shape (was_array cells lines mem) (was belts) (was values))
-        ≡ telling result (sent (left found) (left belt)) }
+    ensures { (mem : Memory) → sent_says shape.rows (route_call shape (with_array cells.now lines.now mem) belts.now values.now)
+        ≡ telling result (sent found.new belt.new) }
 {
     match route(shape, cells, lines, belts, values) {
         Routed::To(row, byte) => {
@@ -85,8 +83,8 @@ pub extern "C" fn jorivelune_rule_at(
     highs: &mut [u8],
     belt: &mut u8,
 ) -> u8
-    ensures { (mem : Memory) → rule_at_call shape (was_cells cells mem) (was belts) row (ranges_of (was lows) (was highs))
-        ≡ giving (telling result (left belt)) [] (ranges_of (left lows) (left highs)) }
+    ensures { (mem : Memory) → rule_at_call shape (with_cells cells.now mem) belts.now row (ranges_of lows.old highs.old)
+        ≡ giving (telling result belt.new) [] (ranges_of lows.new highs.new) }
 {
     match rule_at(shape, cells, belts, row, lows, highs) {
         Belt::Is(byte) => {

@@ -1,6 +1,5 @@
 // The call that a caller makes before he lends anything.
 ghost use Rattle.std.specs.Prelude.{◌≡◌};
-ghost use Rattle.shape.specs.Lent.{left};
 ghost use Rattle.cycle_sizes.specs.Sizes.{sizes_call};
 ghost use Rattle.jorivelune.specs.Numbers.{telling, measured};
 
@@ -21,7 +20,7 @@ pub extern "C" fn jorivelune_sizes(
     steps: &mut usize,
 ) -> u8
     ensures { sizes_call shape skip
-        ≡ telling result (measured (left levels) (left checks) (left columns) (left cells) (left blocks) (left steps)) }
+        ≡ telling result (measured levels.new checks.new columns.new cells.new blocks.new steps.new) }
 {
     match sizes(shape, skip) {
         CycleSized::Taken(told) => {

@@ -1,8 +1,6 @@
 // The panel call.
 ghost use Rattle.std.specs.Prelude.{◌≡◌};
-ghost use Rattle.shape.specs.Lent.{left};
-ghost use Rattle.array_memory.specs.Buffers.{was_flagged};
-ghost use Rattle.array_memory.specs.Memory.{Memory};
+ghost use Rattle.array_memory.specs.Memory.{Memory, with_flagged};
 ghost use Rattle.panel.specs.Panel.{panel_call};
 ghost use Rattle.jorivelune.specs.Numbers.{telling, shown, reading_says};
 
@@ -21,8 +19,8 @@ pub extern "C" fn jorivelune_panel(
     first: &mut usize,
     read: &mut usize,
 ) -> u8
-    ensures { (mem : Memory) → reading_says shape.rows (panel_call shape (was_flagged flags totals mem))
-        ≡ telling result (shown (left total) (left first) (left read)) }
+    ensures { (mem : Memory) → reading_says shape.rows (panel_call shape (with_flagged flags.now totals.now mem))
+        ≡ telling result (shown total.new first.new read.new) }
 {
     let told = panel(shape, flags, totals);
     let found = told.first;

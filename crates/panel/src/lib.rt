@@ -5,10 +5,8 @@
 pub mod questions;
 
 ghost use Rattle.std.specs.Prelude.{◌≡◌, [], ◌∷◌, ◌≤◌, length};
-ghost use Rattle.shape.specs.Lent.{was};
 ghost use Rattle.shape.specs.Shapes.{Passed};
-ghost use Rattle.array_memory.specs.Buffers.{was_flagged};
-ghost use Rattle.array_memory.specs.Memory.{Memory};
+ghost use Rattle.array_memory.specs.Memory.{Memory, with_flagged};
 ghost use Rattle.panel.specs.Panel.{panel_questions, panel_call};
 ghost use Rattle.panel.specs.Answers.{panel_says};
 ghost use Rattle.panel.specs.Reads.{summed, searched};
@@ -46,7 +44,7 @@ struct Search {
 // Reads each total once.
 fn sum_totals(totals: &[u8]) -> Totals
     requires { length totals.now ≤ 64 }
-    ensures { result ≡ summed (was totals) }
+    ensures { result ≡ summed totals.now }
 {
     let mut sum: usize = 0;
     let mut block: usize = 0;
@@ -64,7 +62,7 @@ fn sum_totals(totals: &[u8]) -> Totals
 
 // Reads flags up to the first that isn't 0, and counts each as it is read.
 fn search_block(flags: &[u8]) -> Search
-    ensures { result ≡ searched (was flags) }
+    ensures { result ≡ searched flags.now }
 {
     let mut read: usize = 0;
     while read < flags.len() {
@@ -80,7 +78,7 @@ fn search_block(flags: &[u8]) -> Search
 // A panel call whose questions have been passed. Only the first block whose total isn't 0 is lent to the search.
 pub fn panel_lent(shape: Shape, sizes: Sizes, flags: &[u8], totals: &[u8]) -> Summary
     requires { Passed (panel_questions shape (length flags.now ∷ length totals.now ∷ [])) shape sizes }
-    ensures { (mem : Memory) → panel_call shape (was_flagged flags totals mem) ≡ panel_says result }
+    ensures { (mem : Memory) → panel_call shape (with_flagged flags.now totals.now mem) ≡ panel_says result }
 {
     let all = sum_totals(totals);
     let total = all.sum;
@@ -112,7 +110,7 @@ pub fn panel_lent(shape: Shape, sizes: Sizes, flags: &[u8], totals: &[u8]) -> Su
 
 // The panel call: the grand total, the first flagged row or none, and how many flags were read.
 pub fn panel(shape: Shape, flags: &[u8], totals: &[u8]) -> Summary
-    ensures { (mem : Memory) → panel_call shape (was_flagged flags totals mem) ≡ panel_says result }
+    ensures { (mem : Memory) → panel_call shape (with_flagged flags.now totals.now mem) ≡ panel_says result }
 {
     match check_panel(shape, flags.len(), totals.len()) {
         Checked::Refused(number) => Summary {

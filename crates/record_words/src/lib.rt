@@ -4,7 +4,6 @@
 
 ghost use Rattle.std.specs.Prelude.{◌≡◌};
 ghost use Rattle.shape.specs.Answers.{outcome_says};
-ghost use Rattle.shape.specs.Lent.{was, left};
 ghost use Rattle.record_words.specs.Words.{phase_of, phase_word, cycle_of, words_of, words_after};
 
 use cycle::{Changed, Cycle, Phase};
@@ -32,7 +31,7 @@ fn phase_word(phase: Phase) -> usize
 }
 
 pub fn cycle_of(words: &[usize; 7]) -> Cycle
-    ensures { result ≡ cycle_of (was words) }
+    ensures { result ≡ cycle_of words.now }
 {
     Cycle {
         phase: phase_of(words[0]),
@@ -66,7 +65,7 @@ fn words_of(cycle: Cycle) -> [usize; 7]
 // Stores the record of a call that was taken, and gives the call's number; a refusal leaves the words as they are.
 pub fn store(words: &mut [usize; 7], changed: Changed) -> u8
     ensures answered { result ≡ (outcome_says changed.outcome).number }
-    ensures recorded { left words ≡ words_after (outcome_says changed.outcome) changed.cycle (was words) }
+    ensures recorded { words.new ≡ words_after (outcome_says changed.outcome) changed.cycle words.old }
 {
     let outcome = changed.outcome;
     let cycle = changed.cycle;

@@ -2,13 +2,12 @@
 ghost use Rattle.std.specs.Prelude.{◌≡◌, suc, ◌-◌, ◌*◌, length, get_or};
 ghost use Rattle.parity.specs.Lists.{tabulate};
 ghost use Rattle.router_ranges.specs.Ranges.{paired};
-ghost use Rattle.shape.specs.Lent.{was, left};
 ghost use Rattle.router.specs.Pairs.{PairsLent, PairsRead};
 
 // Each byte of the first, and after it what its neighbour of the second leaves of the top level.
 pub(crate) fn pair(top: u8, xs: &[u8], ys: &[u8], to: &mut [u8])
     requires { PairsLent top xs.now ys.now (length to.old) }
-    ensures { left to ≡ paired top (was xs) (was ys) }
+    ensures { to.new ≡ paired top xs.now ys.now }
 {
     let mut i: usize = 0;
     while i < xs.len() {
@@ -31,8 +30,8 @@ fn complement(top: u8, byte: u8) -> u8
 // Takes pairs apart again, as many as the buffers hold: the highs as they stand, and of the lows what is left of the top level.
 pub(crate) fn unpair(top: u8, pairs: &[u8], lows: &mut [u8], highs: &mut [u8])
     requires { PairsRead (length pairs.now) (length lows.old) (length highs.old) }
-    ensures low { left lows ≡ tabulate (length (was lows)) (λ i. top - get_or (was pairs) (suc (2 * i)) 0) }
-    ensures high { left highs ≡ tabulate (length (was lows)) (λ i. get_or (was pairs) (2 * i) 0) }
+    ensures low { lows.new ≡ tabulate (length lows.old) (λ i. top - get_or pairs.now (suc (2 * i)) 0) }
+    ensures high { highs.new ≡ tabulate (length lows.old) (λ i. get_or pairs.now (2 * i) 0) }
 {
     let mut i: usize = 0;
     while i < lows.len() {

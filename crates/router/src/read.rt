@@ -1,10 +1,8 @@
 // Rule at: a rule read back from its row.
 ghost use Rattle.std.specs.Prelude.{◌≡◌, [], length};
 ghost use Rattle.shape.specs.Answers.{accepted, giving};
-ghost use Rattle.shape.specs.Lent.{was, left};
 ghost use Rattle.shape.specs.Shapes.{Passed};
-ghost use Rattle.array_memory.specs.Buffers.{was_cells};
-ghost use Rattle.array_memory.specs.Memory.{Memory};
+ghost use Rattle.array_memory.specs.Memory.{Memory, with_cells};
 ghost use Rattle.router_ranges.specs.Ranges.{ranges_of};
 ghost use Rattle.router_questions.specs.Questions.{rule_at_questions};
 ghost use Rattle.router.specs.Calls.{rule_at_call};
@@ -27,8 +25,8 @@ pub fn rule_at_lent(
     highs: &mut [u8],
 ) -> u8
     requires { Passed (rule_at_questions shape (length cells.now) (length belts.now) row (length lows.old) (length highs.old)) shape sizes }
-    ensures { (mem : Memory) → rule_at_call shape (was_cells cells mem) (was belts) row (ranges_of (was lows) (was highs))
-        ≡ giving (accepted result) [] (ranges_of (left lows) (left highs)) }
+    ensures { (mem : Memory) → rule_at_call shape (with_cells cells.now mem) belts.now row (ranges_of lows.old highs.old)
+        ≡ giving (accepted result) [] (ranges_of lows.new highs.new) }
 {
     let columns = sizes.columns;
     let start = row * columns;
@@ -47,8 +45,8 @@ pub fn rule_at(
     lows: &mut [u8],
     highs: &mut [u8],
 ) -> Belt
-    ensures { (mem : Memory) → rule_at_call shape (was_cells cells mem) (was belts) row (ranges_of (was lows) (was highs))
-        ≡ giving (belt_says result) [] (ranges_of (left lows) (left highs)) }
+    ensures { (mem : Memory) → rule_at_call shape (with_cells cells.now mem) belts.now row (ranges_of lows.old highs.old)
+        ≡ giving (belt_says result) [] (ranges_of lows.new highs.new) }
 {
     match check_rule_at(
         shape,

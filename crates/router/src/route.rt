@@ -1,9 +1,7 @@
 // Route: the belt for a bottle.
 ghost use Rattle.std.specs.Prelude.{◌≡◌, length};
-ghost use Rattle.shape.specs.Lent.{was};
 ghost use Rattle.shape.specs.Shapes.{Passed};
-ghost use Rattle.array_memory.specs.Buffers.{was_array};
-ghost use Rattle.array_memory.specs.Memory.{Memory};
+ghost use Rattle.array_memory.specs.Memory.{Memory, with_array};
 ghost use Rattle.router_questions.specs.Questions.{route_questions};
 ghost use Rattle.router.specs.Routes.{route_call};
 ghost use Rattle.router.specs.Answers.{routed_says};
@@ -27,7 +25,7 @@ pub fn route_lent(
     values: &[u8],
 ) -> Routed
     requires { Passed (route_questions shape (length cells.now) (length lines.now) (length belts.now) values.now) shape sizes }
-    ensures { (mem : Memory) → route_call shape (was_array cells lines mem) (was belts) (was values) ≡ routed_says result }
+    ensures { (mem : Memory) → route_call shape (with_array cells.now lines.now mem) belts.now values.now ≡ routed_says result }
 {
     let width = shape.width;
     let top = (sizes.levels - 1) as u8;
@@ -42,7 +40,7 @@ pub fn route_lent(
 
 // Route: the first row whose rule holds the bottle's values, with its belt.
 pub fn route(shape: Shape, cells: &[u8], lines: &[u8], belts: &[u8], values: &[u8]) -> Routed
-    ensures { (mem : Memory) → route_call shape (was_array cells lines mem) (was belts) (was values) ≡ routed_says result }
+    ensures { (mem : Memory) → route_call shape (with_array cells.now lines.now mem) belts.now values.now ≡ routed_says result }
 {
     match check_route(shape, cells.len(), lines.len(), belts.len(), values) {
         Checked::Refused(number) => Routed::Refused(number),

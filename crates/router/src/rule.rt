@@ -1,10 +1,8 @@
 // Rule: what a fitter programs a row with.
 ghost use Rattle.std.specs.Prelude.{◌≡◌, [], length};
 ghost use Rattle.shape.specs.Answers.{accepted, giving};
-ghost use Rattle.shape.specs.Lent.{was, left};
 ghost use Rattle.shape.specs.Shapes.{Passed};
-ghost use Rattle.array_memory.specs.Buffers.{was_cells, left_cells};
-ghost use Rattle.array_memory.specs.Memory.{Memory};
+ghost use Rattle.array_memory.specs.Memory.{Memory, with_cells};
 ghost use Rattle.cycle.specs.Calls.{state_of};
 ghost use Rattle.cycle.specs.Methods.{changing};
 ghost use Rattle.cycle.specs.Record.{idle};
@@ -34,8 +32,8 @@ pub fn rule_lent(
 )
     requires { Passed (rule_questions shape (length cells.old) (length belts.old) row (ranges_of lows.now highs.now)) shape sizes }
     ensures { (mem : Memory) (cycle : CycleRecord)
-        → rule_call shape (router_of (state_of (was_cells cells mem) cycle) (was belts)) row (rule_of (was lows) (was highs) belt)
-        ≡ giving (accepted 0) [] (router_of (state_of (left_cells cells mem) idle) (left belts)) }
+        → rule_call shape (router_of (state_of (with_cells cells.old mem) cycle) belts.old) row (rule_of lows.now highs.now belt)
+        ≡ giving (accepted 0) [] (router_of (state_of (with_cells cells.new mem) idle) belts.new) }
 {
     let width = shape.width;
     let top = (sizes.levels - 1) as u8;
@@ -57,8 +55,8 @@ pub fn rule(
     belt: u8,
 ) -> Changed
     ensures { (mem : Memory)
-        → rule_call shape (router_of (state_of (was_cells cells mem) cycle) (was belts)) row (rule_of (was lows) (was highs) belt)
-        ≡ with_belts (left belts) (changing result [] (left_cells cells mem)) }
+        → rule_call shape (router_of (state_of (with_cells cells.old mem) cycle) belts.old) row (rule_of lows.now highs.now belt)
+        ≡ with_belts belts.new (changing result [] (with_cells cells.new mem)) }
 {
     match check_rule(shape, cells.len(), belts.len(), row, lows, highs) {
         Checked::Refused(number) => refused(cycle, number),

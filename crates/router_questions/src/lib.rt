@@ -4,7 +4,6 @@
 ghost use Rattle.std.specs.Prelude.{◌≡◌, leb};
 ghost use Rattle.parity.specs.Lists.{alongside};
 ghost use Rattle.parity.specs.Questions.{first_no};
-ghost use Rattle.shape.specs.Lent.{was};
 ghost use Rattle.shape.specs.Shapes.{checked_says, sizes_if};
 ghost use Rattle.router_ranges.specs.Ranges.{ranges_of};
 ghost use Rattle.router_questions.specs.Questions.{rule_at_questions, rule_questions, route_questions};
@@ -15,7 +14,7 @@ use shape::sizes::{Checked, check_shape};
 
 // Whether no low is above its high: question 19. No pair ends the loop, so that it is compiled to vector code.
 fn in_order(lows: &[u8], highs: &[u8]) -> bool
-    ensures { result ≡ alongside leb (was lows) (was highs) }
+    ensures { result ≡ alongside leb lows.now highs.now }
 {
     if lows.len() != highs.len() {
         return false;
@@ -62,7 +61,7 @@ pub fn check_rule(
     lows: &[u8],
     highs: &[u8],
 ) -> Checked
-    ensures { checked_says result ≡ sizes_if (first_no (rule_questions shape cells belts row (ranges_of (was lows) (was highs)))) shape }
+    ensures { checked_says result ≡ sizes_if (first_no (rule_questions shape cells belts row (ranges_of lows.now highs.now))) shape }
 {
     check_rule_at(shape, cells, belts, row, lows.len(), highs.len())
         .check_levels(lows)
@@ -72,7 +71,7 @@ pub fn check_rule(
 
 // Route.
 pub fn check_route(shape: Shape, cells: usize, lines: usize, belts: usize, values: &[u8]) -> Checked
-    ensures { checked_says result ≡ sizes_if (first_no (route_questions shape cells lines belts (was values))) shape }
+    ensures { checked_says result ≡ sizes_if (first_no (route_questions shape cells lines belts values.now)) shape }
 {
     let asked = check_shape(shape);
     let sizes = asked.sizes();

@@ -3,7 +3,6 @@
 #![tactic(auto)]
 
 ghost use Rattle.std.specs.Prelude.{◌≤◌, length};
-ghost use Rattle.shape.specs.Lent.{left};
 
 use job::{MAX_TEXT, MAX_TOTALS};
 use job_parse::{MAX_BYTES, MAX_CELLS};
@@ -19,7 +18,7 @@ struct Reading {
 
 // Reads until the buffer is full or the input ends. A read that fails is told, since it is no end of the input.
 fn read_input(input: &mut [u8]) -> Reading
-    ensures { result.bytes ≤ length (left input) }
+    ensures { result.bytes ≤ length input.new }
 {
     let mut bytes: usize = 0;
     while bytes < input.len() {

@@ -1,5 +1,4 @@
 -- What is lent to a call, what the calls answer with, and what the questions on a shape give.
-pub mod Lent
 pub mod Answers
 pub mod Shapes
 pub mod Bounds

@@ -3,7 +3,6 @@
 ghost use Rattle.std.specs.Prelude.{◌≡◌, ◌^◌, ◌≤◌, ltb, length, replicate};
 ghost use Rattle.parity.specs.Lists.{every, greatest, filled_from, differences};
 ghost use Rattle.shape.specs.Bounds.{Comparable};
-ghost use Rattle.shape.specs.Lent.{was, left};
 
 // As a function of its own, so that a byte read from a buffer asks for its place alone.
 pub fn wide(byte: u8) -> usize
@@ -28,7 +27,7 @@ pub fn power_of_two(exponent: usize) -> usize
 }
 
 pub fn fill(part: &mut [u8], value: u8)
-    ensures { left part ≡ replicate (length (was part)) value }
+    ensures { part.new ≡ replicate (length part.old) value }
 {
     let mut i: usize = 0;
     while i < part.len() {
@@ -39,7 +38,7 @@ pub fn fill(part: &mut [u8], value: u8)
 
 // Copies as many bytes as both have.
 pub fn copy(from: &[u8], to: &mut [u8])
-    ensures { left to ≡ filled_from (was from) (was to) }
+    ensures { to.new ≡ filled_from from.now to.old }
 {
     let mut i: usize = 0;
     while i < to.len() {
@@ -53,7 +52,7 @@ pub fn copy(from: &[u8], to: &mut [u8])
 
 // The largest of the bytes, 0 where there is none. No byte ends the loop, so that it is compiled to vector code.
 pub fn largest(bytes: &[u8]) -> u8
-    ensures { result ≡ greatest (was bytes) }
+    ensures { result ≡ greatest bytes.now }
 {
     let mut most: u8 = 0;
     let mut i: usize = 0;
@@ -69,7 +68,7 @@ pub fn largest(bytes: &[u8]) -> u8
 
 // The same of inputs.
 pub fn largest_input(inputs: &[u16]) -> u16
-    ensures { result ≡ greatest (was inputs) }
+    ensures { result ≡ greatest inputs.now }
 {
     let mut most: u16 = 0;
     let mut i: usize = 0;
@@ -85,7 +84,7 @@ pub fn largest_input(inputs: &[u16]) -> u16
 
 // Whether every byte is below a bound: the largest is.
 pub fn all_below(bytes: &[u8], bound: usize) -> bool
-    ensures { result ≡ every (λ v. ltb v bound) (was bytes) }
+    ensures { result ≡ every (λ v. ltb v bound) bytes.now }
 {
     if bytes.len() == 0 {
         return true;
@@ -97,7 +96,7 @@ pub fn all_below(bytes: &[u8], bound: usize) -> bool
 // is compiled to vector code of as many lanes.
 pub fn count_differences(one: &[u8], other: &[u8]) -> u8
     requires { Comparable (length one.now) (length other.now) }
-    ensures { result ≡ differences (was one) (was other) }
+    ensures { result ≡ differences one.now other.now }
 {
     let mut count: u8 = 0;
     let mut i: usize = 0;

@@ -2,7 +2,6 @@
 ghost use Rattle.std.specs.Prelude.{◌≡◌, [], ◌∷◌, ◌<◌, eqb};
 ghost use Rattle.parity.specs.Lists.{alongside};
 ghost use Rattle.parity.specs.Questions.{question, levels_question, inputs_question};
-ghost use Rattle.shape.specs.Lent.{was};
 ghost use Rattle.shape.specs.Shapes.{checked_says, sizes_in, then_says};
 
 use super::byte::{all_below, largest_input, wide_input};
@@ -10,7 +9,7 @@ use super::sizes::{Checked, Sizes};
 
 // Whether the lengths lent are those wanted: question 6.
 pub fn same_lengths(lent: &[usize], wanted: &[usize]) -> bool
-    ensures { result ≡ alongside eqb (was lent) (was wanted) }
+    ensures { result ≡ alongside eqb lent.now wanted.now }
 {
     if lent.len() != wanted.len() {
         return false;
@@ -59,7 +58,7 @@ impl Checked {
 
     // Question 8: the levels are looked at only where nothing was refused before.
     pub fn check_levels(self, given: &[u8]) -> Self
-        ensures { checked_says result ≡ then_says self (levels_question (sizes_in self).levels (was given) ∷ []) }
+        ensures { checked_says result ≡ then_says self (levels_question (sizes_in self).levels given.now ∷ []) }
     {
         match self {
             Checked::Refused(first) => Checked::Refused(first),
@@ -74,7 +73,7 @@ impl Checked {
     }
     // Question 8 of inputs, which may be q: the largest decides.
     pub fn check_inputs(self, inputs: &[u16]) -> Self
-        ensures { checked_says result ≡ then_says self (inputs_question (sizes_in self).levels (was inputs) ∷ []) }
+        ensures { checked_says result ≡ then_says self (inputs_question (sizes_in self).levels inputs.now ∷ []) }
     {
         match self {
             Checked::Refused(first) => Checked::Refused(first),

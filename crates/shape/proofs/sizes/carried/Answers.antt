@@ -10,8 +10,7 @@ use borrow.Author.Rules.{rules}
 use borrow.Author.Tests.{eqb-true}
 use Rattle.parity.specs.Shape.{largest}
 use Rattle.parity.proofs.ListLaws.{grid-at}
-use Rattle.shape.proofs.sizes.carried.Statement.{statement}
-use Rattle.shape.proofs.sizes.carried.Tie as tie
+use Rattle.shape.proofs.sizes.carried.Goals as goal
 
 abbrev table : List (List ℕ)
 table =
@@ -24,32 +23,9 @@ table =
 right : ℕ → ℕ → Bool
 right τ r = eqb (get_or (get_or table (τ - 1) []) (r - 1) 0) (largest τ r)
 
-sub_wide : tie.Need-overflow-sub-wide
-sub_wide c = search rules
-
-sub-wide-2 : tie.Need-overflow-sub-wide-2
-sub-wide-2 c = search rules
-
-mul_wide : tie.Need-overflow-mul-wide
-mul_wide c = search rules
-
-index-1-wide : tie.Need-bounds-1-wide
-index-1-wide c = search rules
-
-index-2-wide : tie.Need-bounds-2-wide
-index-2-wide c = search rules
-
-wide-requires : tie.Need-wide-requires
-wide-requires c κs = search rules
-
-returns : tie.Need-returns
+pub returns : goal.returns
 unfolding right largest
 returns c =
-    let args = c.before.before.args in
+    let args = c.args in
     c.wide.ensures
     ∙ eqb-true _ _ (grid-at 3 8 right refl args.errors args.checks (omega arith) (omega arith) (omega arith) (omega arith))
-
-pub carried-spec : {M : Type 1} → statement M
-carried-spec =
-    tie.close
-    (tie.spec sub_wide sub-wide-2 mul_wide index-1-wide index-2-wide wide-requires returns)

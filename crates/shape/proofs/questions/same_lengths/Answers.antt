@@ -1,0 +1,13 @@
+-- `shape::questions::same_lengths` meets its contract: what is left of the comparison gives the whole comparison's answer. Assumes nothing.
+use mathlib.Core.Path.{◌≡◌, refl, sym, ◌∙◌, ap}
+use Prim.Native.Nat.{◌-◌, ◌≤◌}
+use native.Mathlib.Omega.{arith}
+use lib.Dec.{eqb}
+use lib.ListN.{length}
+use borrow.Author.Tests.{eq-eqb, ne_eqb}
+use Rattle.parity.proofs.Alongside.{alongside_from, alongside-fails, alongside-passes, alongside-ended, alongside-lengths}
+use Rattle.shape.proofs.questions.same_lengths.Goals as goal
+
+-- other numbers of lengths
+pub returns-then-lent-wanted : goal.returns-then-lent-wanted
+returns-then-lent-wanted c = let args = c.args in sym (alongside-lengths eqb args.lent.now args.wanted.now c.if-lent-wanted.true)

@@ -1,0 +1,20 @@
+-- `shape::sizes::least_checks` meets its contract: what is left of the search gives the whole search's answer. Assumes nothing.
+use mathlib.Core.Path.{◌≡◌, refl, sym, ◌∙◌, ap}
+use Prim.Native.Nat.{ℕ, ◌-◌, ◌≤◌}
+use native.Mathlib.Omega.{arith}
+use lib.Dec.{leb}
+use borrow.Author.Rules.{rules}
+use borrow.Author.Tests.{le-leb, lt-leb}
+use Rattle.parity.specs.Shape.{largest, redundancy}
+use Rattle.shape.proofs.Search.{searched, search-found, search-missed}
+use Rattle.shape.proofs.sizes.least_checks.Given as goal
+
+-- the search from r on
+abbrev pub from : ℕ → ℕ → ℕ → ℕ
+from τ k = searched (λ r. leb k (largest τ r)) 9
+
+abbrev pub invariant-loop-checks : goal.invariant-loop-checks
+invariant-loop-checks l = (1 ≤ l.checks) × (l.checks ≤ 9) × (from l.errors l.width l.checks ≡ redundancy l.errors l.width)
+
+abbrev pub decreases-loop-checks : goal.decreases-loop-checks
+decreases-loop-checks l = 9 - l.checks
