@@ -16,7 +16,7 @@ use parity::Shape;
 use shape::answer::Outcome;
 use shape::sizes::Sizes;
 
-#[derive(Drop)]
+#[derive(Clone, Copy)]
 pub enum Phase {
     Idle,
     Open,
@@ -25,7 +25,7 @@ pub enum Phase {
 
 // A cycle's phase, the place of its next lookup in the schedule, the accepted steps since its start, and the number of
 // low digits that it skips.
-#[derive(Drop)]
+#[derive(Clone, Copy)]
 pub struct Cycle {
     pub phase: Phase,
     // all 0 where an opening is next, and where no lookup is to come
@@ -35,7 +35,7 @@ pub struct Cycle {
 }
 
 // What a call that has the record gives back beside the bytes that it writes.
-#[derive(Drop)]
+#[derive(Clone, Copy)]
 pub struct Changed {
     pub outcome: Outcome,
     pub cycle: Cycle,

@@ -7,7 +7,7 @@ use shape::byte::{power_of_two, wide};
 
 // What the matrix tells of check row ℓ and column j: the ones in the check rows before ℓ, those in ℓ, and
 // those in ℓ before j.
-#[derive(Drop)]
+#[derive(Clone, Copy)]
 pub(crate) struct Survey {
     pub(crate) before: usize,
     pub(crate) size: usize,

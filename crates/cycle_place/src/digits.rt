@@ -7,7 +7,7 @@ use super::factors::scale;
 use parity::Shape;
 
 // The digit s, q / ρ^s, below which its factors are, and ρ^s.
-#[derive(Drop)]
+#[derive(Clone, Copy)]
 pub struct Digit {
     pub number: usize,
     pub span: usize,

@@ -8,7 +8,7 @@ pub mod factors;
 pub mod walk;
 
 // The place of a lookup of the schedule: its check row ℓ, digit s, column j and factor a.
-#[derive(Drop)]
+#[derive(Clone, Copy)]
 pub struct Place {
     pub check: usize,
     pub digit: usize,

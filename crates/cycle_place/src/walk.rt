@@ -13,21 +13,21 @@ use parity::Shape;
 use shape::byte::{power_of_two, wide};
 
 // Whether a test is found at a place, and q / ρ^s of its digit.
-#[derive(Drop)]
+#[derive(Clone, Copy)]
 pub(crate) enum Sought {
     At(usize),
     Elsewhere,
 }
 
 // The place of a next lookup, or that there is none.
-#[derive(Drop)]
+#[derive(Clone, Copy)]
 pub enum Next {
     Place(Place),
     End,
 }
 
 // A test that is next: whether it is the last of its check row and digit, and the place after it.
-#[derive(Drop)]
+#[derive(Clone, Copy)]
 pub struct Here {
     pub ends: bool,
     pub next: Next,
@@ -35,7 +35,7 @@ pub struct Here {
 
 // What a place is: that of an opening, with the match byte that a row with a sound line gives it and the place after it, that of
 // a test, or none.
-#[derive(Drop)]
+#[derive(Clone, Copy)]
 pub enum Located {
     Opening(u8, Next),
     Test(Here),

@@ -16,7 +16,7 @@ use parity::Shape;
 use shape::sizes::{Checked, Sizes, check_shape};
 
 // The sizes of a shape that is taken, with what a cycle needs.
-#[derive(Drop)]
+#[derive(Clone, Copy)]
 pub struct CycleSizes {
     // q
     pub levels: usize,
@@ -33,7 +33,7 @@ pub struct CycleSizes {
 }
 
 // A shape's sizes, or the number of the first question that fails.
-#[derive(Drop)]
+#[derive(Clone, Copy)]
 pub enum CycleSized {
     Taken(CycleSizes),
     Refused(u8),

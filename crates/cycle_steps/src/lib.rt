@@ -32,7 +32,7 @@ use parity::Shape;
 use shape::sizes::{Checked, Sizes, check_shape};
 
 // The record after some tests, and the place of the last of them.
-#[derive(Drop)]
+#[derive(Clone, Copy)]
 pub(crate) struct Tested {
     pub(crate) cycle: Cycle,
     pub(crate) last: Place,

@@ -19,7 +19,7 @@ use shape::byte::wide;
 use shape::sizes::{Checked, Sizes};
 
 // The panel's answer. A refused call's row says so, and its numbers are 0.
-#[derive(Drop)]
+#[derive(Clone, Copy)]
 pub struct Summary {
     pub total: usize,
     pub first: First,
@@ -28,14 +28,14 @@ pub struct Summary {
 }
 
 // What all the totals tell: their sum, and the first block whose total isn't 0, or the number of blocks.
-#[derive(Drop)]
+#[derive(Clone, Copy)]
 struct Totals {
     sum: usize,
     block: usize,
 }
 
 // How a search through a block's flags ended: at one that isn't 0, or at the block's end; and how many of them were read.
-#[derive(Drop)]
+#[derive(Clone, Copy)]
 struct Search {
     found: bool,
     read: usize,

@@ -4,7 +4,7 @@
 
 // The shape of an array: questions 1 to 5 of document 01 say which are taken.
 #[repr(C)]
-#[derive(Drop)]
+#[derive(Clone, Copy)]
 pub struct Shape {
     // ρ, the radix of the digits
     pub radix: usize,
@@ -19,14 +19,14 @@ pub struct Shape {
 }
 
 // The order of a detection cycle's lookups: one check row after the other, or all columns together.
-#[derive(Drop)]
+#[derive(Clone, Copy)]
 pub enum Order {
     RowFirst,
     ColumnFirst,
 }
 
 // What a detection cycle is to do: its order, and z, the number of low digits that it skips.
-#[derive(Drop)]
+#[derive(Clone, Copy)]
 pub struct Plan {
     pub order: Order,
     pub skip: usize,

@@ -16,7 +16,7 @@ const LARGEST: [[u8; 8]; 3] = [
 ];
 
 // The sizes of a shape that is taken.
-#[derive(Drop)]
+#[derive(Clone, Copy)]
 pub struct Sizes {
     // q
     pub levels: usize,
@@ -62,7 +62,7 @@ impl Sizes {
 }
 
 // A shape's sizes, or the number of the first question that it fails.
-#[derive(Drop)]
+#[derive(Clone, Copy)]
 pub enum Checked {
     Taken(Sizes),
     Refused(u8),
