@@ -7,9 +7,9 @@ use acam::matrix::matrix_of;
 use cycle::Cycle;
 use cycle_run::run_cycle;
 use cycle_sizes::count_ones;
-use libc::STDOUT_FILENO;
 use parity::Shape;
 use shape::sizes::{Checked, check_shape};
+use std::io;
 
 fn example(radix: usize, digits: usize, errors: usize, width: usize, rows: usize) -> Shape {
     Shape {
@@ -52,92 +52,93 @@ fn lookups_made(shape: Shape, columns: usize) -> usize {
     count - 2
 }
 
-fn put(word: &[u8], value: usize) {
-    io::write_all(STDOUT_FILENO, word);
-    io::print_decimal(STDOUT_FILENO, value as u64);
+fn put(rt: &impl Print, word: &str, value: usize) -> io::Result<()> {
+    print!(rt; "{word}{value}")
 }
 
-fn end_line() {
-    io::write_all(STDOUT_FILENO, b"\n");
+fn end_line(rt: &impl Print) -> io::Result<()> {
+    println!(rt)
 }
 
 // The naive way reads the thresholds of all m × k cells.
-fn naive_reads(shape: Shape) {
+fn naive_reads(rt: &impl Print, shape: Shape) -> io::Result<()> {
     match check_shape(shape) {
-        Checked::Refused(_) => {}
+        Checked::Refused(_) => Ok(()),
         Checked::Taken(_) => {
-            put(b"naive reads ", shape.rows * shape.width);
-            end_line();
+            put(rt, "naive reads ", shape.rows * shape.width)?;
+            end_line(rt)
         }
     }
 }
 
 // One row of Table I.
-fn table_row(errors: usize) {
+fn table_row(rt: &impl Print, errors: usize) -> io::Result<()> {
     let eight = example(2, 3, errors, 50, 1);
     match check_shape(eight) {
-        Checked::Refused(_) => {}
+        Checked::Refused(_) => Ok(()),
         Checked::Taken(sizes) => {
             let checks = sizes.checks;
             let columns = sizes.columns;
             let matrix = matrix_of(eight, checks);
-            put(b"tau ", errors);
-            put(b" r ", checks);
-            put(b" n ", columns);
-            put(b" ones ", count_ones(&matrix));
-            put(b" q8 ", lookups_made(eight, columns));
+            put(rt, "tau ", errors)?;
+            put(rt, " r ", checks)?;
+            put(rt, " n ", columns)?;
+            put(rt, " ones ", count_ones(&matrix))?;
+            put(rt, " q8 ", lookups_made(eight, columns))?;
             put(
-                b" q16 ",
+                rt,
+                " q16 ",
                 lookups_made(example(2, 4, errors, 50, 1), columns),
-            );
-            end_line();
+            )?;
+            end_line(rt)
         }
     }
 }
 
 // The lookups of that row where q is the radix and there is one digit: the figures of Table I apply also to this case, the paper
 // says.
-fn whole_levels(errors: usize) {
+fn whole_levels(rt: &impl Print, errors: usize) -> io::Result<()> {
     let eight = example(8, 1, errors, 50, 1);
     match check_shape(eight) {
-        Checked::Refused(_) => {}
+        Checked::Refused(_) => Ok(()),
         Checked::Taken(sizes) => {
             let columns = sizes.columns;
-            put(b"b 1 tau ", errors);
-            put(b" q8 ", lookups_made(eight, columns));
+            put(rt, "b 1 tau ", errors)?;
+            put(rt, " q8 ", lookups_made(eight, columns))?;
             put(
-                b" q16 ",
+                rt,
+                " q16 ",
                 lookups_made(example(16, 1, errors, 50, 1), columns),
-            );
-            end_line();
+            )?;
+            end_line(rt)
         }
     }
 }
 
 // The ones of 50 rule columns and r check columns, each of which has one, by the least shape that has r of them.
-fn wider(width: usize) {
+fn wider(rt: &impl Print, width: usize) -> io::Result<()> {
     let shape = example(2, 3, 2, width, 1);
     match check_shape(shape) {
-        Checked::Refused(_) => {}
+        Checked::Refused(_) => Ok(()),
         Checked::Taken(sizes) => {
             let checks = sizes.checks;
             let matrix = matrix_of(shape, checks);
-            put(b"tau 2 r ", checks);
-            put(b" ones ", count_ones(&matrix[..50]) + checks);
-            end_line();
+            put(rt, "tau 2 r ", checks)?;
+            put(rt, " ones ", count_ones(&matrix[..50]) + checks)?;
+            end_line(rt)
         }
     }
 }
 
-fn main() {
-    naive_reads(example(2, 3, 1, 50, 512));
-    table_row(1);
-    table_row(2);
-    table_row(3);
-    whole_levels(1);
-    whole_levels(2);
-    whole_levels(3);
+fn main(rt: HostRuntime) -> io::Result<()> {
+    naive_reads(&rt, example(2, 3, 1, 50, 512))?;
+    table_row(&rt, 1)?;
+    table_row(&rt, 2)?;
+    table_row(&rt, 3)?;
+    whole_levels(&rt, 1)?;
+    whole_levels(&rt, 2)?;
+    whole_levels(&rt, 3)?;
     // footnote 6 goes on to r = 11; document 01 has at most 8 check columns, since a column is a byte
-    wider(58);
-    wider(121);
+    wider(&rt, 58)?;
+    wider(&rt, 121)
 }
