@@ -17,7 +17,7 @@ fn main() {
     compile_loops();
 }
 
-/// The folder of the archive that `rt staticlib jorivelune` makes is searched by the
+/// The folder of the archive that `tools/build jorivelune` makes is searched by the
 /// targets that link it.
 fn find_library() {
     let folder = variable("CARGO_MANIFEST_DIR").join("../target/staticlib");

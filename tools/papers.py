@@ -28,7 +28,7 @@ def crates():
     for line in pathlib.Path("crates.txt").read_text(encoding="utf8").splitlines():
         if line and not line.startswith("#"):
             name, _, rest = line.partition(":")
-            own.append(name)
+            own.append(name.split()[0])
             needed.update(rest.split())
     return own, needed - set(own)
 

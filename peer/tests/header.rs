@@ -2,7 +2,7 @@
 //! to, and two programs that are compiled against them, linked with the proved library
 //! and run make the calls.
 //!
-//! The library is ../target/staticlib/libjorivelune.a, made by rt staticlib jorivelune.
+//! The library is ../target/staticlib/libjorivelune.a, made by tools/build jorivelune.
 
 use std::env;
 use std::fs;
@@ -119,7 +119,7 @@ impl Compiler {
     fn run(&self, source: &str) {
         assert!(
             Path::new(ARCHIVE).is_file(),
-            "target/staticlib/libjorivelune.a is missing: run rt staticlib jorivelune"
+            "target/staticlib/libjorivelune.a is missing: run tools/build jorivelune"
         );
         let program = self.program(source);
         let built = self

@@ -1,7 +1,7 @@
 //! The sizes of a shape: by the formulas, by this build and by the proved library,
 //! and the steps as a cycle counts them.
 //!
-//! The library is ../target/staticlib/libjorivelune.a, made by rt staticlib jorivelune.
+//! The library is ../target/staticlib/libjorivelune.a, made by tools/build jorivelune.
 
 mod proved_calls;
 

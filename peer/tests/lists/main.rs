@@ -2,7 +2,7 @@
 //! After each call the answer, the record and every lent byte are compared,
 //! and with them the bytes before and after each lent part.
 //!
-//! The library is ../target/staticlib/libjorivelune.a, made by rt staticlib jorivelune.
+//! The library is ../target/staticlib/libjorivelune.a, made by tools/build jorivelune.
 
 mod asks;
 mod coarse;

@@ -4,7 +4,7 @@ use peer::testing::records::Words;
 use peer::Shape;
 
 /// What the calls say where there is no archive.
-const MISSING: &str = "target/staticlib/libjorivelune.a is missing: run rt staticlib jorivelune";
+const MISSING: &str = "target/staticlib/libjorivelune.a is missing: run tools/build jorivelune";
 
 /// The shape as it crosses.
 #[repr(C)]

@@ -1,4 +1,4 @@
-//! The calls of the proved library, from the archive that `rt staticlib jorivelune`
+//! The calls of the proved library, from the archive that `tools/build jorivelune`
 //! makes. A slice crosses as its address and its length.
 
 // the benchmark makes some of the calls, and each by itself
