@@ -16,7 +16,7 @@ pub fn proved() -> PathBuf {
     let path = settings::job_program().unwrap_or_else(built);
     assert!(
         path.is_file(),
-        "the proved job program is not at {}: build it with rt check run_job",
+        "the proved job program is not at {}: build it with tools/build run_job",
         path.display()
     );
     path
