@@ -36,7 +36,9 @@ unfolding block_at
 block-flag flags i j h = get_or-take 64 (drop (i * 64) flags) j 0 h ∙ get_or-drop (i * 64) flags j 0
 
 -- block i, lent as `flags[start..end]`
-pub block-part : (flags : List ℕ) (i start end : ℕ) → start ≡ i * 64 → end ≡ block_end start (length flags) → mid_of start (end - start) flags ≡ block_at flags i
+pub block-part :
+    (flags : List ℕ) (i start end : ℕ) → start ≡ i * 64 → end ≡ block_end start (length flags)
+    → mid_of start (end - start) flags ≡ block_at flags i
 unfolding block_at
 block-part flags i start end begins ends = go (leb (start + 64) (length flags)) refl
   where
