@@ -62,8 +62,8 @@ module _ (z : ℕ) (s : Shape) (t : Taken s) where
 
   -- the place of the first lookup of a digit from a column on ..
   start-place :
-      (ℓ d i c : ℕ) → ℓ < checks s → z ≤ d → d < s.digits → i ≤ columns s → rank s ℓ i < support_size s ℓ → c ≡ after_openings (column_start z s ℓ d (rank s ℓ i))
-      → AtPlace z s c (place_at ℓ d (held_from (matrix s) ℓ i) 1)
+      (ℓ d i c : ℕ) → ℓ < checks s → z ≤ d → d < s.digits → i ≤ columns s → rank s ℓ i < support_size s ℓ
+      → c ≡ after_openings (column_start z s ℓ d (rank s ℓ i)) → AtPlace z s c (place_at ℓ d (held_from (matrix s) ℓ i) 1)
   unfolding rank support_size support place_index
   start-place ℓ d i c row unskipped digit within some e =
       let sized = (matrix_claim s t).sized in
@@ -85,7 +85,8 @@ module _ (z : ℕ) (s : Shape) (t : Taken s) where
 
   -- .. and at its first of all
   first-place :
-      (ℓ d c : ℕ) → ℓ < checks s → z ≤ d → d < s.digits → c ≡ after_openings (column_start z s ℓ d 0) → AtPlace z s c (place_at ℓ d (held_from (matrix s) ℓ 0) 1)
+      (ℓ d c : ℕ) → ℓ < checks s → z ≤ d → d < s.digits → c ≡ after_openings (column_start z s ℓ d 0)
+      → AtPlace z s c (place_at ℓ d (held_from (matrix s) ℓ 0) 1)
   unfolding rank support_size
   first-place ℓ d c row unskipped digit e = start-place ℓ d 0 c row unskipped digit (omega arith) (support-some s t ℓ row) e
 
