@@ -4,18 +4,10 @@ use Prim.Native.Nat.{◌*◌, ◌/◌}
 use native.Mathlib.Nat.{mul-le-mul}
 use native.Mathlib.Omega.{arith}
 use Rattle.acam.proofs.Reciprocal.{by_product}
-use Rattle.acam.proofs.sums.quotient.Statement.{statement}
-use Rattle.acam.proofs.sums.quotient.Tie as tie
+use Rattle.acam.proofs.sums.quotient.Goals as goal
 
-mul-result : tie.Need-overflow-mul-result
-mul-result c =
-    omega (arith, mul-le-mul {n₁ = c.args.value} {m₁ = c.args.reciprocal} {n₂ = 256} {m₂ = 65537} (omega arith) (omega arith))
-
-returns : tie.Need-returns
+pub returns : goal.returns
 returns c d pos high e =
     let v = c.args.value in
     ap (λ m. v * m / 65536) e
     ∙ by_product 65536 v d (omega (arith, mul-le-mul {n₁ = v} {m₁ = d} {n₂ = 255} {m₂ = 256} (omega arith) high)) pos
-
-pub quotient-spec : {M : Type 1} → statement M
-quotient-spec = tie.close (tie.spec mul-result returns)

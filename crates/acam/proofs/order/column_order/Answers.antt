@@ -6,8 +6,7 @@ use Rattle.parity.specs.Lists.{differences}
 use Rattle.parity.specs.Shape.{digit}
 use Rattle.parity.specs.Matrix.{weight, of_weight, column_order}
 use Rattle.parity.proofs.ListLaws.{differences-zero}
-use Rattle.acam.proofs.order.column_order.Statement.{statement}
-use Rattle.acam.proofs.order.column_order.Tie as tie
+use Rattle.acam.proofs.order.column_order.Goals as goal
 
 -- the source's table
 abbrev table : List ℕ
@@ -35,8 +34,5 @@ right : differences table column_order ≡ 0
 unfolding column_order of_weight weight digit
 right = refl
 
-returns : tie.Need-returns
+pub returns : goal.returns
 returns c = differences-zero table column_order right
-
-pub column-order-spec : {M : Type 1} → statement M
-column-order-spec = tie.close (tie.spec returns)
