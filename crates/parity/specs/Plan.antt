@@ -27,9 +27,9 @@ visits RowFirst s = matrix_ones s
 visits ColumnFirst s = columns s
 
 -- the lookups of a cycle: (q / ρ^z − 1) × W row-first, (q / ρ^z − 1) × n column-first
-unfoldable pub lookups : Plan → Shape → ℕ
-lookups plan s = (levels s / s.radix ^ plan.skip - 1) * visits plan.order s
+unfoldable pub plan_lookups : Plan → Shape → ℕ
+plan_lookups plan s = (levels s / s.radix ^ plan.skip - 1) * visits plan.order s
 
 -- the steps of a cycle: its two openings (Cards 4 and 7), and then the lookups
-abbrev pub cycle_steps : Plan → Shape → ℕ
-cycle_steps plan s = suc (suc (lookups plan s))
+abbrev pub plan_steps : Plan → Shape → ℕ
+cycle_steps plan s = suc (suc (plan_lookups plan s))
