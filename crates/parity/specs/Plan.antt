@@ -32,4 +32,4 @@ plan_lookups plan s = (levels s / s.radix ^ plan.skip - 1) * visits plan.order s
 
 -- the steps of a cycle: its two openings (Cards 4 and 7), and then the lookups
 abbrev pub plan_steps : Plan → Shape → ℕ
-cycle_steps plan s = suc (suc (plan_lookups plan s))
+plan_steps plan s = suc (suc (plan_lookups plan s))
