@@ -53,7 +53,8 @@ pub fn make_test(
     requires rows_lent { RowsLent shape (with_all cells.now lines.now counters.old flags.old totals.old no_memory) (length matches.old) }
     ensures matched { (mem : Memory) → entry_matches shape (test_of skip shape place) (with_array cells.now lines.now mem) ≡ matches.new }
     ensures stepped { (mem : Memory)
-        → looked_up shape (test_of skip shape place) (with_all cells.now lines.now counters.old flags.old totals.old mem) ≡ with_all cells.now lines.now counters.new flags.new totals.new mem }
+        → looked_up shape (test_of skip shape place) (with_all cells.now lines.now counters.old flags.old totals.old mem)
+        ≡ with_all cells.now lines.now counters.new flags.new totals.new mem }
 {
     let radix = shape.radix;
     let digit = place.digit;
@@ -89,7 +90,8 @@ pub fn count_test(
     requires holding { Holding shape place held unit cells.now counters.old matches.old }
     ensures held { matches.new ≡ column_cells columns place.column cells.now (length matches.old) }
     ensures stepped { (mem : Memory)
-        → looked_up shape (test_of skip shape place) (with_all cells.now lines.now counters.old flags.old totals.old mem) ≡ with_all cells.now lines.now counters.new flags.new totals.new mem }
+        → looked_up shape (test_of skip shape place) (with_all cells.now lines.now counters.old flags.old totals.old mem)
+        ≡ with_all cells.now lines.now counters.new flags.new totals.new mem }
 {
     let radix = shape.radix as u8;
     let digit = place.digit;

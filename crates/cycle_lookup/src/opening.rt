@@ -19,7 +19,8 @@ pub fn make_opening(byte: u8, lines: &[u8], flags: &mut [u8], totals: &mut [u8],
     ensures matched { (s : ShapeOf) → Taken s → (mem : Memory) → Sized s (with_lines lines.now mem)
         → entry_matches s (opening_of s byte) (with_lines lines.now mem) ≡ matches.new }
     ensures opened { (s : ShapeOf) → Taken s → (mem : Memory) → Sized s (with_lines lines.now (with_flagged flags.old totals.old mem))
-        → looked_up s (opening_of s byte) (with_lines lines.now (with_flagged flags.old totals.old mem)) ≡ with_lines lines.now (with_flagged flags.new totals.new mem) }
+        → looked_up s (opening_of s byte) (with_lines lines.now (with_flagged flags.old totals.old mem))
+        ≡ with_lines lines.now (with_flagged flags.new totals.new mem) }
 {
     match_lines(lines, byte, matches);
     flag_rows(matches, byte, flags);

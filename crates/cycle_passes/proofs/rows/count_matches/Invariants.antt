@@ -6,7 +6,8 @@ use Rattle.cycle_passes.proofs.Pass.{Pass}
 use Rattle.cycle_passes.proofs.rows.count_matches.Given as goal
 
 abbrev pub invariant-loop-i : goal.invariant-loop-i
-invariant-loop-i l = Pass (column_match l.input l.lines l.initial.matches) l.initial.matches l.i l.matches × Pass (counted_byte l.radix l.initial.counters (column_matches l.input l.lines l.initial.matches)) l.initial.counters l.i l.counters
+invariant-loop-i l = Pass (column_match l.input l.lines l.initial.matches) l.initial.matches l.i l.matches
+    × Pass (counted_byte l.radix l.initial.counters (column_matches l.input l.lines l.initial.matches)) l.initial.counters l.i l.counters
 
 abbrev pub decreases-loop-i : goal.decreases-loop-i
 decreases-loop-i l = length l.initial.counters - l.i
