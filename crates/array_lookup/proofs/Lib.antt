@@ -5,3 +5,4 @@ pub mod RowBytes
 pub mod Asked
 pub mod Asking
 pub mod FirstRows
+pub mod Searching

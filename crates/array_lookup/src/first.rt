@@ -16,6 +16,7 @@ use shape::sizes::{Checked, Sizes};
 
 // The first row with a shorted line, or with a sound one whose cells all answer 1 to inputs that are all below q or not: on to the
 // next row at a dead line, at inputs that no cell answers 1 to and at the first cell that says no, and the end at the first match.
+#[tactic(auto, using(crate::proofs::Searching::search_steps))]
 fn find_match(
     cells: &[u8],
     lines: &[u8],
