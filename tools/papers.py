@@ -23,8 +23,8 @@ CRATES = pathlib.Path("crates")
 
 
 def crates():
-    """Our crates in the order of crates.txt, and those of the kit that they need: they have no line of their own."""
-    own, needed = [], set()
+    """Our crates in the order of crates.txt, and those of the kit that they need: std, which no line names, and any others."""
+    own, needed = [], {"std"}
     for line in pathlib.Path("crates.txt").read_text(encoding="utf8").splitlines():
         if line and not line.startswith("#"):
             name, _, rest = line.partition(":")
@@ -196,9 +196,17 @@ def serves_code(path):
 
 # a module, and the names that are taken from it; without a list of names, all of them
 USE = r"use ([^\s{;]+?)(?:\.\{([^}]*)\})?(?: as \S+)?;?$"
+# a type of our code in a definition's imports: its crate, the modules that it stands in, and its name
+DECLARED = r"(?m)^use Rattle\.(\w+)\.specs\.declared\.((?:[a-z_]+\.)*)([A-Z]\w*)"
 
 
-def believed():
+def is_own(module, own):
+    """Whether a module is one of ours: `Rattle.CRATE` of a crate in crates.txt, or what stands under it. All others are the kit's."""
+    first, _, rest = module.partition(".")
+    return first == "Rattle" and rest.partition(".")[0] in own
+
+
+def believed(own):
     """For each such list, by its heading: the names that it has to have, for each crate or module."""
     believed_files, serving, types, kit = (collections.defaultdict(set) for _ in range(4))
     uses = []
@@ -209,13 +217,13 @@ def believed():
             continue    # it only names the files beside it
         (serving if serves_code(path) else believed_files)[path.parts[1]].add(path.stem)
         if not serves_code(path):
-            declared = r"(?m)^use Rattle·(\w+)(?:·specs)?\.specs\.declared\.((?:[a-z_]+\.)*)([A-Z]\w*)"
-            for crate, modules, name in re.findall(declared, text):
-                types["::".join([crate, *modules.split(".")[:-1]])].add(name)
+            for crate, modules, name in re.findall(DECLARED, text):
+                if crate in own:
+                    types["::".join([crate, *modules.split(".")[:-1]])].add(name)
     for path in sorted(CRATES.glob("*/src/**/*.rt")):
         uses += re.findall("(?m)^ghost " + USE, code(path))
     for module, names in uses:
-        if not module.startswith("Rattle·"):
+        if not is_own(module, own):
             taken = [name.split(" as ")[0].strip() for name in (names or "all of it").split(",")]
             kit[module].update(filter(None, taken))
     return {
@@ -231,7 +239,7 @@ def believed():
 
 def check_names(lines, names):
     """Each failure with its line's number; the number of names comes last."""
-    lists = believed()
+    lists = believed(names.own)
     section, owner, count, failures = None, None, 0, []
     named = {title: collections.defaultdict(set) for title in lists}
     begins = {}
