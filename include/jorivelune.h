@@ -1,4 +1,4 @@
-// The library's calls for C11 and C++17 on x86-64. `rt staticlib jorivelune` makes target/staticlib/libjorivelune.a.
+// The library's calls for C11 and C++17 on x86-64. `tools/build jorivelune` makes target/staticlib/libjorivelune.a.
 // jorivelune_head.h beside this file has the same calls on one struct that holds shape, record and buffers.
 //
 // Each call answers 0 where it is taken, or the number of the first question that fails (enum jorivelune_refusal). A

@@ -216,8 +216,8 @@ fn a_missing_function_is_found_in_each_text() {
 
 #[test]
 fn the_clauses_of_an_extern_function_are_asked_for() {
-    let ensures = "    ensures { λ r. ⌜ r = started { words, shape } ⌝ }\n";
-    let requires = "    requires { ⌜ shape.rows > 0 ⌝ }\n";
+    let ensures = "    ensures { result ≡ started { words, shape } }\n";
+    let requires = "    requires { 0 < shape.rows }\n";
     let both = [
         requires.to_string() + ensures,
         ensures.to_string() + requires,
@@ -241,17 +241,17 @@ fn the_clauses_of_an_extern_function_are_asked_for() {
 
 #[test]
 fn the_marks_of_an_extern_function_are_asked_for() {
-    let start = "#[no_mangle]\npub extern \"C\" fn jorivelune_start";
+    let start = "#[unsafe(no_mangle)]\npub extern \"C\" fn jorivelune_start";
     let unmarked = "pub extern \"C\" fn jorivelune_start";
     finds(
         Text::Calls(0),
         start,
         unmarked,
-        "jorivelune_start: no #[no_mangle]",
+        "jorivelune_start: no #[unsafe(no_mangle)]",
     );
-    let private = "#[no_mangle]\nextern \"C\" fn jorivelune_start";
+    let private = "#[unsafe(no_mangle)]\nextern \"C\" fn jorivelune_start";
     finds(Text::Calls(0), start, private, "jorivelune_start: not pub");
-    let foreign = "#[no_mangle]\npub fn jorivelune_start";
+    let foreign = "#[unsafe(no_mangle)]\npub fn jorivelune_start";
     finds(Text::Calls(0), start, foreign, "2 marks and 1 functions");
 }
 

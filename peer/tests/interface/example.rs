@@ -8,51 +8,51 @@ const CALLS: [&str; 2] = [
 use parity::Shape;
 
 /// A call that has { the record.
-#[no_mangle]
+#[unsafe(no_mangle)]
 pub extern "C" fn jorivelune_start(words: &mut [usize; 7], shape: Shape, counters: &mut [u8]) -> u8
-    ensures { λ r. ⌜ r = started { words, shape } ⌝ }
+    ensures { result ≡ started { words, shape } }
 {
     if shape.rows == 0 { 5 } else { 0 }
 }
 
 fn helper(shape: &Shape) -> u8
-    requires { ⌜ shape.rows > 0 ⌝ }
-    ensures { λ r. ⌜ r = 0 ⌝ }
+    requires { 0 < shape.rows }
+    ensures { result ≡ 0 }
 {
     0
 }
 
-#[no_mangle]
+#[unsafe(no_mangle)]
 pub extern "C" fn jorivelune_panel(
     shape: Shape,
     flags: &[u8], // one for each row
     total: &mut usize,
     first: &mut usize,
 ) -> u8
-    ensures { λ r. ⌜ r = 0 ⌝ }
-    ensures { λ r. ⌜ r = 0 ⌝ }
+    ensures told { result ≡ 0 }
+    ensures first { result ≡ 0 }
 {
     0
 }
 "#,
     r#"
-#[no_mangle]
+#[unsafe(no_mangle)]
 pub extern "C" fn jorivelune_sound(shape: Shape, row: usize, byte: u8, holds: &mut bool) -> u8
-    ensures { λ r. ⌜ r = 0 ⌝ }
+    ensures { result ≡ 0 }
 {
     0
 }
 
-#[no_mangle]
+#[unsafe(no_mangle)]
 pub extern "C" fn jorivelune_wide(inputs: &[u16], input: u16, out: &mut [u8]) -> u8
-    ensures { λ r. ⌜ r = 0 ⌝ }
+    ensures { result ≡ 0 }
 {
     0
 }
 
-#[no_mangle]
+#[unsafe(no_mangle)]
 pub extern "C" fn jorivelune_route(values: &[u8], found: &mut usize, belt: &mut u8) -> u8
-    ensures { λ r. ⌜ r = 0 ⌝ }
+    ensures { result ≡ 0 }
 {
     0
 }

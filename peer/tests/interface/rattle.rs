@@ -23,7 +23,7 @@ impl Calls {
             self.read_function(pair[0], pair[1])
                 .map_err(|why| format!("{name}: {why}"))?;
         }
-        let marks = text.matches("#[no_mangle]").count();
+        let marks = text.matches("#[unsafe(no_mangle)]").count();
         if marks + 1 != pieces.len() {
             return Err(format!("{marks} marks and {} functions", pieces.len() - 1));
         }
@@ -33,8 +33,8 @@ impl Calls {
     /// One function, from its name on, and what stands before it.
     fn read_function(&mut self, before: &str, text: &str) -> Read<()> {
         let item = before.rsplit(['}', ';']).next().unwrap_or(before);
-        if !item.contains("#[no_mangle]") {
-            return Err("no #[no_mangle]".into());
+        if !item.contains("#[unsafe(no_mangle)]") {
+            return Err("no #[unsafe(no_mangle)]".into());
         }
         if !item.trim_end().ends_with("pub") {
             return Err("not pub".into());
@@ -122,7 +122,14 @@ fn ask_clauses(text: &str) -> Read<()> {
             "ensures" => ensured = true,
             _ => return Err(format!("a clause of another form: {:?}", beginning(rest))),
         }
-        rest = bracketed(inside.trim_start(), ['{', '}'])?.1.trim_start();
+        // where a kind has two clauses, each has a name
+        let inside = inside.trim_start();
+        let inside = if inside.starts_with('{') {
+            inside
+        } else {
+            word(inside).1.trim_start()
+        };
+        rest = bracketed(inside, ['{', '}'])?.1.trim_start();
     }
     ensured.then_some(()).ok_or("no ensures".into())
 }
