@@ -206,7 +206,8 @@ impl Cycle {
         totals: &mut [u8],
         matches: &mut [u8],
     ) -> Changed
-        requires { Passed (lent_questions shape [] (all_lengths (with_all cells.now lines.now counters.old flags.old totals.old no_memory)) (length matches.old)) shape sizes }
+        requires { Passed (lent_questions shape [] (all_lengths (with_all cells.now lines.now counters.old flags.old totals.old no_memory))
+            (length matches.old)) shape sizes }
         ensures { (mem : Memory) → step_call shape (state_of (with_all cells.now lines.now counters.old flags.old totals.old mem) self) matches.old
             ≡ changing result matches.new (with_all cells.now lines.now counters.new flags.new totals.new mem) }
     {
@@ -244,7 +245,8 @@ impl Cycle {
         matches: &mut [u8],
     ) -> Changed
         requires padded_lent { PaddedLent shape checks columns padded.now }
-        requires matches_value { first_no (lent_questions shape [] (all_lengths (with_all cells.now lines.now counters.old flags.old totals.old no_memory)) (length matches.old)) ≡ 0 }
+        requires matches_value { first_no (lent_questions shape [] (all_lengths (with_all cells.now lines.now counters.old flags.old totals.old no_memory))
+            (length matches.old)) ≡ 0 }
         ensures { (mem : Memory) → step_call shape (state_of (with_all cells.now lines.now counters.old flags.old totals.old mem) self) matches.old
             ≡ changing result matches.new (with_all cells.now lines.now counters.new flags.new totals.new mem) }
     {

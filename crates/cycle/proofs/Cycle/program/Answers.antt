@@ -1,0 +1,38 @@
+-- `cycle::Cycle::program` meets its contract: `check_program` asks, `write_row` writes the row, and the record is idle. Assumes nothing.
+use mathlib.Core.Path.{refl}
+use mathlib.Core.List.{List, []}
+use lib.ListN.{length}
+use Rattle.parity.specs.Codeword.{encode}
+use Rattle.parity.specs.Questions.{Question}
+use Rattle.shape.specs.Shapes.{Passed}
+use Rattle.shape.proofs.Refusals.{answer-taken, answer-refused}
+use Rattle.array_memory.specs.Memory.{with_cells}
+use Rattle.array_questions.specs.Questions.{cells_questions, program_arguments}
+use Rattle.array.specs.Calls.{row_written}
+use Rattle.cycle.specs.Calls.{program_call}
+use Rattle.cycle.specs.Record.{idle}
+use Rattle.cycle.proofs.Given.{gives-refusal, gives-done}
+use Rattle.cycle.proofs.Cycle.program.Goals as goal
+
+-- refused
+pub returns-in-Refused : goal.returns-in-Refused
+unfolding program_call
+returns-in-Refused c =
+    let args = c.args in
+    let questions : List Question = cells_questions args.shape (length args.cells.now) (program_arguments args.shape args.row args.given.now) in
+    let number = c.in-Refused.number in
+    λ mem. gives-refusal questions [] (with_cells args.cells.now mem) args.self _ _ number
+    (answer-refused questions args.shape c.check_program.result c.check_program.ensures number c.in-Refused.is)
+    c.refused.ensures
+
+-- the row is written
+pub returns-in-Taken : goal.returns-in-Taken
+unfolding program_call
+returns-in-Taken c =
+    let args = c.args in
+    let questions : List Question = cells_questions args.shape (length args.cells.now) (program_arguments args.shape args.row args.given.now) in
+    let passed : Passed questions args.shape c.in-Taken.sizes =
+    answer-taken questions args.shape c.check_program.result c.check_program.ensures c.in-Taken.is in
+    λ mem. gives-done questions [] (with_cells args.cells.now mem) args.self _ [] []
+    (row_written args.shape (with_cells args.cells.now mem) args.row (encode args.shape args.given.now)) _ idle _ passed.none
+    c.done.ensures refl (c.write_row.ensures mem) refl
