@@ -71,7 +71,7 @@ pub fn match_byte(inputs: &[u8], row: &[u8]) -> u8
     }
     let mut start: usize = 0;
     let mut next: usize = (inputs.len() - 1) % 16 + 1;
-    while start < inputs.len() {
+    'stretches: while start < inputs.len() {
         let end = start + 16;
         if !answer_all(&inputs[start..end], &row[start..end]) {
             return 0;

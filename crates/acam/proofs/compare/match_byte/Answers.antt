@@ -10,7 +10,7 @@ use Rattle.acam.proofs.compare.match_byte.Goals as goal
 
 pub overflow_add-end : goal.overflow_add-end
 overflow_add-end c =
-    let ends : c.loop-start.start + 16 ≤ length c.args.inputs.now = c.loop-start.invariant.4 (omega arith) in
+    let ends : c.stretches.start + 16 ≤ length c.args.inputs.now = c.stretches.invariant.4 (omega arith) in
     omega arith
 
 -- a stretch says no
@@ -18,18 +18,18 @@ pub returns-then-not-answer_all : goal.returns-then-not-answer_all
 unfolding compared_byte
 returns-then-not-answer_all c =
     let args = c.args in
-    let ends : c.loop-start.start + 16 ≤ length args.inputs.now = c.loop-start.invariant.4 (omega arith) in
-    let start = c.loop-start.start in
+    let ends : c.stretches.start + 16 ≤ length args.inputs.now = c.stretches.invariant.4 (omega arith) in
+    let start = c.stretches.start in
     ap (λ t. cond t 1 0)
     (sym
     (stretch-fails args.inputs.now args.row.now (omega arith) start (start + 16) ends
     (sym c.answer_all.ensures ∙ c.if-not-answer_all.true)))
 
-pub loop-start-preserved : goal.loop-start-preserved
-loop-start-preserved c =
+pub stretches-preserved : goal.stretches-preserved
+stretches-preserved c =
     let args = c.args in
-    let ends : c.loop-start.start + 16 ≤ length args.inputs.now = c.loop-start.invariant.4 (omega arith) in
-    let loop = c.loop-start in
+    let ends : c.stretches.start + 16 ≤ length args.inputs.now = c.stretches.invariant.4 (omega arith) in
+    let loop = c.stretches in
     let first =
     stretch-passes args.inputs.now args.row.now (omega arith) loop.start (loop.start + 16) ends
     (sym c.answer_all.ensures ∙ c.if-not-answer_all.false) loop.invariant.5 in
@@ -40,6 +40,6 @@ pub returns : goal.returns
 unfolding compared_byte
 returns c =
     let args = c.args in
-    let all : c.loop-start.start ≡ length args.inputs.now = omega arith in
-    let first = subst (FirstReached args.inputs.now args.row.now) all c.loop-start.invariant.5 in
+    let all : c.stretches.start ≡ length args.inputs.now = omega arith in
+    let first = subst (FirstReached args.inputs.now args.row.now) all c.stretches.invariant.5 in
     ap (λ t. cond t 1 0) (sym (compare-all args.inputs.now args.row.now (omega arith) first))

@@ -6,10 +6,10 @@ use Rattle.acam.proofs.Comparison.{FirstReached}
 use Rattle.acam.proofs.compare.match_byte.Given as goal
 
 -- the stretch after the first begins where whole stretches lead from there to the end
-abbrev pub invariant-loop-start : goal.invariant-loop-start
-invariant-loop-start l =
+abbrev pub invariant-stretches : goal.invariant-stretches
+invariant-stretches l =
     (l.start ≤ length l.inputs) × (l.start < l.next) × (l.next ≤ l.start + 16) × (l.next % 16 ≡ length l.inputs % 16)
     × (l.start < length l.inputs → l.start + 16 ≤ length l.inputs) × FirstReached l.inputs l.row l.start
 
-abbrev pub decreases-loop-start : goal.decreases-loop-start
-decreases-loop-start l = length l.inputs - l.start
+abbrev pub decreases-stretches : goal.decreases-stretches
+decreases-stretches l = length l.inputs - l.start
