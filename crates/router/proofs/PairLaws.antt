@@ -1,12 +1,9 @@
--- Bytes paired in a buffer, two places for each of them: what a pair more makes of it, and when all are there; and pairs made in the front part of an
--- array, which a taken shape's levels and columns allow. Assumes nothing.
+-- Bytes paired in the front part of an array, two places for each of them, which a taken shape's levels and columns allow. Assumes nothing.
 use mathlib.Core.Path.{◌≡◌, sym, ap, ◌∙◌}
-use mathlib.Core.List.{List, ◌∷◌, ◌++◌, append-nil, append_assoc}
-use Prim.Native.Nat.{ℕ, suc, ◌+◌, ◌-◌, ◌≤◌, ◌<◌}
-use native.Mathlib.Numerals.{add-one}
+use mathlib.Core.List.{List, ◌++◌}
+use Prim.Native.Nat.{ℕ, ◌+◌, ◌-◌}
 use native.Mathlib.Omega.{arith}
-use lib.ListN.{length, get_or, take, drop, set, drop_of_length-le}
-use lib.Seq.{take-suc-set, take_all, drop-cons, lt-length-set}
+use lib.ListN.{length, take, drop}
 use Rattle.parity.specs.Shape.{levels}
 use Rattle.parity.specs.Claims.{Below}
 use Rattle.parity.specs.Questions.{Taken}
@@ -20,28 +17,6 @@ use Rattle.array_lookup.proofs.Front.{blank, Holds, front-sized, front-held}
 use Rattle.router_ranges.specs.Ranges.{features, paired}
 use Rattle.router_ranges.proofs.Pairs.{paired-length}
 use Rattle.router.specs.Pairs.{PairsLent}
-
--- two bytes stored one after the other, after the n that are there already and before those that are to follow
-two-stored :
-    (n m a b : ℕ) (to rest : List ℕ) → suc n < length to → m ≡ suc (suc n) → take m (set (set to n a) (n + 1) b) ++ rest ≡ take n to ++ a ∷ b ∷ rest
-two-stored n m a b to rest h e =
-    rw (e, add-one, take-suc-set (set to n a) (suc n) b (lt-length-set to n a h), take-suc-set to n a (omega arith)) (simp append_assoc)
-
-module _ (top i : ℕ) (xs ys to : List ℕ) (twice : length to ≡ length xs + length xs) where
-  -- a pair more, with those that are left, is what was left
-  pub pair-next :
-      i < length xs → length ys ≡ length xs
-      → take (i + 1 + (i + 1)) (set (set to (i + i) (get_or xs i 0)) (i + i + 1) (top - get_or ys i 0)) ++ paired top (drop (i + 1) xs) (drop (i + 1) ys)
-      ≡ take (i + i) to ++ paired top (drop i xs) (drop i ys)
-  pair-next h same =
-      two-stored (i + i) (i + 1 + (i + 1)) (get_or xs i 0) (top - get_or ys i 0) to _ (omega arith) (omega arith)
-      ∙ rw (add-one, drop-cons xs i 0 h, drop-cons ys i 0 (omega arith))
-
-  -- none left
-  pub pair-all : length xs ≤ i → to ≡ take (i + i) to ++ paired top (drop i xs) (drop i ys)
-  pair-all h = rw (take_all (i + i) to (omega arith), drop_of_length-le xs h, append-nil)
-
--- ---- pairs made in the front part of an array, which the levels and the columns of a shape that is taken allow
 
 -- the top level is a byte
 pub levels-within : (s : Shape) → Taken s → (z : Sizes) → z ≡ sizes_of s → Within 1 z.levels 256
