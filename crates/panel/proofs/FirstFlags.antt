@@ -55,14 +55,16 @@ first-is xs k h before there =
 abbrev pub sum : List ℕ → ℕ
 sum xs = sum_over xs (λ x. x)
 
+first-zero : (x : ℕ) (xs : List ℕ) → x ≡ 0 → first_nonzero (x ∷ xs) ≡ suc (first_nonzero xs)
+first-zero x xs e = first-cons x xs ∙ rw e refl
+
 zero-snoc : (xs : List ℕ) (t : ℕ) → sum (xs ++ t ∷ []) ≡ 0 → first_nonzero (xs ++ t ∷ []) ≡ suc (first_nonzero xs)
 unfolding first_nonzero
 zero-snoc [] t e = let zero-byte : t ≡ 0 = omega arith in rw zero-byte refl
 zero-snoc (x ∷ xs) t e =
     let zero-byte : x ≡ 0 = omega arith in
     let rest : sum (xs ++ t ∷ []) ≡ 0 = omega arith in
-    first-cons x (xs ++ t ∷ [])
-    ∙ rw zero-byte (ap suc (zero-snoc xs t rest ∙ sym (first-cons 0 xs)))
+    first-zero x (xs ++ t ∷ []) zero-byte ∙ ap suc (zero-snoc xs t rest ∙ sym (first-zero x xs zero-byte))
 
 more-snoc : (xs : List ℕ) (t : ℕ) → (sum (xs ++ t ∷ []) ≡ 0 → ⊥) → first_nonzero (xs ++ t ∷ []) ≡ first_nonzero xs
 unfolding first_nonzero
