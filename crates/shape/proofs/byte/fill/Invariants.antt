@@ -1,11 +1,8 @@
 -- `shape::byte::fill` meets its contract: the first i places hold the value, the rest is as it was. Assumes nothing.
-use mathlib.Core.Path.{◌≡◌, refl, ◌∙◌, ap}
-use mathlib.Core.List.{◌++◌, append-nil}
+use mathlib.Core.Path.{◌≡◌}
+use mathlib.Core.List.{◌++◌}
 use Prim.Native.Nat.{◌-◌, ◌≤◌}
-use native.Mathlib.Omega.{arith}
-use lib.ListN.{length, replicate, drop, set, length-set}
-use lib.Seq.{drop-length}
-use borrow.Author.Fill.{fill_more}
+use lib.ListN.{length, replicate, drop}
 use Rattle.shape.proofs.byte.fill.Given as goal
 
 abbrev pub invariant-loop-i : goal.invariant-loop-i

@@ -1,12 +1,8 @@
 -- `shape::byte::largest` meets its contract: the largest so far is that of the bytes before place i. Assumes nothing.
-use mathlib.Core.Path.{◌≡◌, refl, ◌∙◌, ap}
-use mathlib.Core.Logic.{⊎_elim}
+use mathlib.Core.Path.{◌≡◌}
 use Prim.Native.Nat.{◌-◌, ◌≤◌}
-use native.Mathlib.Omega.{arith}
 use lib.ListN.{length, take}
-use lib.Seq.{take_all}
 use Rattle.parity.specs.Lists.{greatest}
-use Rattle.parity.proofs.Greatest.{greatest-next}
 use Rattle.shape.proofs.byte.largest.Given as goal
 
 abbrev pub invariant-loop-i : goal.invariant-loop-i

@@ -1,11 +1,7 @@
 -- `shape::questions::same_lengths` meets its contract: what is left of the comparison gives the whole comparison's answer. Assumes nothing.
-use mathlib.Core.Path.{◌≡◌, refl, sym, ◌∙◌, ap}
-use Prim.Native.Nat.{◌-◌, ◌≤◌}
-use native.Mathlib.Omega.{arith}
+use mathlib.Core.Path.{sym}
 use lib.Dec.{eqb}
-use lib.ListN.{length}
-use borrow.Author.Tests.{eq-eqb, ne_eqb}
-use Rattle.parity.proofs.Alongside.{alongside_from, alongside-fails, alongside-passes, alongside-ended, alongside-lengths}
+use Rattle.parity.proofs.Alongside.{alongside-lengths}
 use Rattle.shape.proofs.questions.same_lengths.Goals as goal
 
 -- other numbers of lengths

@@ -1,12 +1,7 @@
 -- `shape::sizes::capped_power` meets its contract: the running power is ρ^i and at most 256; past 256 the whole power is past it too.
 -- Assumes nothing.
-use mathlib.Core.Path.{◌≡◌, sym, ◌∙◌, ap}
-use mathlib.Core.Bool.{cond}
-use Prim.Native.Nat.{suc, ◌-◌, ◌*◌, ◌^◌, ◌≤◌}
-use native.Mathlib.Nat.{pow-suc, pow-zero, pow-le-pow_right, mul-le-mul}
-use native.Mathlib.Numerals.{add-one}
-use native.Mathlib.Omega.{arith}
-use borrow.Author.Tests.{le-leb, lt-leb}
+use mathlib.Core.Path.{◌≡◌}
+use Prim.Native.Nat.{◌-◌, ◌^◌, ◌≤◌}
 use Rattle.shape.proofs.sizes.capped_power.Given as goal
 
 abbrev pub invariant-loop-i : goal.invariant-loop-i

@@ -3,7 +3,6 @@
 use Prim.Native.Nat.{◌+◌, ◌*◌, ◌≤◌}
 use native.Mathlib.Nat.{mul-le-mul}
 use native.Mathlib.Omega.{arith}
-use borrow.Author.Rules.{rules}
 use Rattle.parity.specs.Shape.{limit, checks, columns, cell_count}
 use Rattle.parity.proofs.Taken.{range-test, range-low, range-high}
 use Rattle.parity.proofs.Redundancy.{redundancy-limit, past-limit, limit-high}

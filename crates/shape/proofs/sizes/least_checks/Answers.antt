@@ -1,13 +1,10 @@
 -- `shape::sizes::least_checks` meets its contract: what is left of the search gives the whole search's answer. Assumes nothing.
-use mathlib.Core.Path.{◌≡◌, refl, sym, ◌∙◌, ap}
-use Prim.Native.Nat.{ℕ, ◌-◌, ◌≤◌}
+use mathlib.Core.Path.{refl, sym, ◌∙◌}
 use native.Mathlib.Omega.{arith}
 use lib.Dec.{leb}
-use borrow.Author.Rules.{rules}
-use borrow.Author.Tests.{le-leb, lt-leb}
+use borrow.Author.Tests.{lt-leb}
 use Rattle.parity.specs.Shape.{largest, redundancy}
-use Rattle.shape.proofs.Search.{searched, search-found, search-missed}
-use Rattle.shape.proofs.sizes.least_checks.Invariants.{from}
+use Rattle.shape.proofs.Search.{search-missed}
 use Rattle.shape.proofs.sizes.least_checks.Goals as goal
 
 pub loop-checks-init : goal.loop-checks-init

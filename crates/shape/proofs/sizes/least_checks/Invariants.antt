@@ -1,12 +1,9 @@
 -- `shape::sizes::least_checks` meets its contract: what is left of the search gives the whole search's answer. Assumes nothing.
-use mathlib.Core.Path.{◌≡◌, refl, sym, ◌∙◌, ap}
+use mathlib.Core.Path.{◌≡◌}
 use Prim.Native.Nat.{ℕ, ◌-◌, ◌≤◌}
-use native.Mathlib.Omega.{arith}
 use lib.Dec.{leb}
-use borrow.Author.Rules.{rules}
-use borrow.Author.Tests.{le-leb, lt-leb}
 use Rattle.parity.specs.Shape.{largest, redundancy}
-use Rattle.shape.proofs.Search.{searched, search-found, search-missed}
+use Rattle.shape.proofs.Search.{searched}
 use Rattle.shape.proofs.sizes.least_checks.Given as goal
 
 -- the search from r on
