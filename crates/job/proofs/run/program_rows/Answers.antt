@@ -1,0 +1,66 @@
+-- `job::run::program_rows` meets its contract. The loop's invariant: the cells are those after programming the rows before `row`, on an
+-- idle record, and `start` is where the levels of `row` begin. Assumes nothing.
+use mathlib.Core.Path.{◌≡◌, ◌∙◌, ap, ap₂}
+use mathlib.Core.List.{List, []}
+use Prim.Native.Nat.{ℕ, ◌+◌, ◌-◌, ◌*◌, ◌≤◌, ◌<◌}
+use native.Mathlib.Numerals.{add-one}
+use native.Mathlib.Omega.{arith}
+use lib.ListN.{length, take, drop}
+use borrow.Author.Rules.{rules}
+use Rattle.parity.specs.declared.Shape.{Shape}
+use Rattle.array_memory.specs.Memory.{Memory, with_cells}
+use Rattle.array_memory.proofs.RowPlaces.{row_fits}
+use Rattle.cycle.specs.Record.{idle}
+use Rattle.cycle.specs.Calls.{state_of, program_call}
+use Rattle.cycle.specs.Methods.{changing}
+use Rattle.cycle.specs.declared.Changed.{Changed}
+use Rattle.job_parse.specs.Parse.{job_shape, row_levels, level_count, most_bytes}
+use Rattle.job.specs.Job.{after_programs}
+use Rattle.job.specs.Ready.{Ready}
+use Rattle.job.proofs.TakenJob.{taken_job}
+use Rattle.job.proofs.JobCalls.{program-left}
+use Rattle.job.proofs.run.program_rows.Invariants.{Programmed}
+use Rattle.job.proofs.run.program_rows.Goals as goal
+
+-- one row more
+next :
+    (s : Shape) (input cells₀ cells last : List ℕ) (i : ℕ) (given : List ℕ) → s ≡ job_shape input → given ≡ row_levels input i
+    → Programmed input cells₀ i cells
+    → (r : Changed) → ((mem : Memory) → program_call s (state_of (with_cells cells mem) idle) i given ≡ changing r [] (with_cells last mem))
+    → Programmed input cells₀ (i + 1) last
+next s input cells₀ cells last i given same levels before r gives mem =
+    ap (λ n. after_programs input n (state_of (with_cells cells₀ mem) idle)) (add-one i)
+    ∙ ap (λ st. (program_call (job_shape input) st i (row_levels input i)).state) (before mem)
+    ∙ program-left (job_shape input) (with_cells cells mem) (with_cells last mem) i (row_levels input i) r (rw (same, levels) at (gives mem))
+
+-- the levels of a row are within the input
+ends :
+    (input : List ℕ) (s : Shape) (row : ℕ) → Ready input s → row < s.rows
+    → (11 + row * s.width + s.width ≤ length input) × (length input ≤ most_bytes)
+ends input s row ready h =
+    let job = taken_job input ready.none in
+    let same : s.rows * s.width ≡ level_count input = ap (λ s. s.rows * s.width) ready.shape in
+    (omega (arith, row_fits row s.rows s.width h, job.sized), job.short)
+
+pub slice_bounds-program-end : goal.slice_bounds-program-end
+slice_bounds-program-end c =
+    let within = ends c.args.input.now c.args.shape c.loop-row.row c.requires c.loop-row-test.true in
+    let start = c.loop-row.invariant.0 in
+    omega arith
+
+pub loop-row-preserved : goal.loop-row-preserved
+loop-row-preserved c =
+    let loop = c.loop-row in
+    let args = c.args in
+    let s = args.shape in
+    let input = args.input.now in
+    let same = c.requires.shape in
+    let count : loop.start + s.width - loop.start ≡ (job_shape input).width = omega (arith, ap (λ s. s.width) same) in
+    let given : take (loop.start + s.width - loop.start) (drop loop.start input) ≡ row_levels input loop.row
+    = ap₂ (λ n at. take n (drop at input)) count (loop.invariant.0 ∙ ap (λ s. 11 + loop.row * s.width) same) in
+    let call = c.program in (
+      omega arith,
+      omega arith,
+      search rules,
+      next s input args.cells.now loop.cells _ loop.row _ same given loop.invariant.3 call.result call.ensures,
+    )
