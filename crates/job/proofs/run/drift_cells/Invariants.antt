@@ -17,7 +17,9 @@ Drifted input cells₀ i cells =
     (mem : Memory) → after_drifts input i (state_of (with_cells cells₀ mem) idle) ≡ state_of (with_cells cells mem) idle
 
 abbrev pub invariant-loop-at : goal.invariant-loop-at
-invariant-loop-at l = (i : ℕ) × (l.at ≡ drift_start l.input i) × (i ≤ drift_count l.input) × (length l.cells ≡ length l.initial.cells) × Drifted l.input l.initial.cells i l.cells
+invariant-loop-at l =
+    (i : ℕ) × (l.at ≡ drift_start l.input i) × (i ≤ drift_count l.input) × (length l.cells ≡ length l.initial.cells)
+    × Drifted l.input l.initial.cells i l.cells
 
 abbrev pub decreases-loop-at : goal.decreases-loop-at
 decreases-loop-at l = length l.input - l.at

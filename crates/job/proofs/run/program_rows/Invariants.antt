@@ -16,7 +16,8 @@ Programmed input cells₀ i cells =
     (mem : Memory) → after_programs input i (state_of (with_cells cells₀ mem) idle) ≡ state_of (with_cells cells mem) idle
 
 abbrev pub invariant-loop-row : goal.invariant-loop-row
-invariant-loop-row l = (l.start ≡ 11 + l.row * l.width) × (l.row ≤ l.rows) × (length l.cells ≡ length l.initial.cells) × Programmed l.input l.initial.cells l.row l.cells
+invariant-loop-row l =
+    (l.start ≡ 11 + l.row * l.width) × (l.row ≤ l.rows) × (length l.cells ≡ length l.initial.cells) × Programmed l.input l.initial.cells l.row l.cells
 
 abbrev pub decreases-loop-row : goal.decreases-loop-row
 decreases-loop-row l = l.rows - l.row
