@@ -1,0 +1,12 @@
+-- `jorivelune::cells::jorivelune_line` meets its contract: its number is that of the outcome. Assumes nothing.
+use borrow.Author.Rules.{rules}
+use Rattle.array.specs.Calls.{line_call}
+use Rattle.jorivelune.proofs.Numbers.{calling-told, gives-number}
+use Rattle.jorivelune.proofs.cells.jorivelune_line.Goals as goal
+
+-- the outcome's number
+pub returns : goal.returns
+unfolding line_call
+returns c =
+    let made = c.set_line in
+    λ mem. gives-number (calling-told _ _ _ _ _ _) made.result (made.ensures mem) c.number_of.ensures
