@@ -1,6 +1,5 @@
 -- `jorivelune::calls::jorivelune_program` meets its contract: the record is read, the method on it returns, and `store` leaves what the return says.
 -- Assumes nothing.
-use borrow.Author.Rules.{rules}
 use Rattle.array_memory.specs.Memory.{with_cells}
 use Rattle.cycle.specs.Calls.{program_call}
 use Rattle.jorivelune.proofs.Numbers.{calling-told, stores}

@@ -1,5 +1,4 @@
 -- `jorivelune::cells::jorivelune_drift` meets its contract: its number is that of the outcome. Assumes nothing.
-use borrow.Author.Rules.{rules}
 use Rattle.array.specs.Calls.{drift_call}
 use Rattle.jorivelune.proofs.Numbers.{calling-told, gives-number}
 use Rattle.jorivelune.proofs.cells.jorivelune_drift.Goals as goal

@@ -3,7 +3,6 @@ use mathlib.Core.Path.{◌≡◌, ap, ◌∙◌}
 use mathlib.Core.List.{List}
 use Prim.Native.Nat.{ℕ}
 use lib.ListN.{length}
-use borrow.Author.Rules.{rules}
 use Rattle.parity.specs.Match.{task_vector}
 use Rattle.parity.specs.Shape.{levels, columns}
 use Rattle.parity.specs.Questions.{first_no}
@@ -11,7 +10,7 @@ use Rattle.parity.specs.declared.Shape.{Shape}
 use Rattle.shape.specs.Answers.{none, first_says}
 use Rattle.shape.specs.declared.answer.First.{First}
 use Rattle.array_memory.specs.Geometry.{row_match}
-use Rattle.array_memory.specs.Memory.{Memory, with_array}
+use Rattle.array_memory.specs.Memory.{Memory}
 use Rattle.array_lookup.specs.Lookups.{array_questions, first_arguments, first_row, first_call}
 use Rattle.jorivelune.specs.Numbers.{telling, found_says}
 use Rattle.jorivelune.proofs.Numbers.{Told, answering-told, tells}

@@ -1,5 +1,4 @@
 -- `jorivelune::cells::jorivelune_lookup` meets its contract: its number and its value are those of the answer. Assumes nothing.
-use borrow.Author.Rules.{rules}
 use Rattle.array_lookup.specs.Lookups.{lookup_call}
 use Rattle.jorivelune.proofs.Numbers.{calling-told, gives-count}
 use Rattle.jorivelune.proofs.cells.jorivelune_lookup.Goals as goal

@@ -1,5 +1,4 @@
 -- `jorivelune::cells::jorivelune_read` meets its contract: its number is that of the outcome. Assumes nothing.
-use borrow.Author.Rules.{rules}
 use Rattle.array.specs.Calls.{read_call}
 use Rattle.jorivelune.proofs.Numbers.{calling-told, gives-number}
 use Rattle.jorivelune.proofs.cells.jorivelune_read.Goals as goal

@@ -3,7 +3,6 @@ use mathlib.Core.Path.{ap, ◌∙◌}
 use mathlib.Core.Bool.{false}
 use Prim.Native.Nat.{ℕ}
 use lib.ListN.{length}
-use borrow.Author.Rules.{rules}
 use Rattle.parity.specs.Shape.{columns}
 use Rattle.parity.specs.Codeword.{is_codeword}
 use Rattle.parity.specs.Questions.{first_no}

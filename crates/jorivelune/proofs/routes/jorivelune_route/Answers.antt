@@ -4,11 +4,10 @@ use mathlib.Core.Path.{◌≡◌, ap, ◌∙◌}
 use mathlib.Core.List.{List}
 use Prim.Native.Nat.{ℕ}
 use lib.ListN.{length}
-use borrow.Author.Rules.{rules}
 use Rattle.parity.specs.Shape.{levels}
 use Rattle.parity.specs.Questions.{first_no}
 use Rattle.parity.specs.declared.Shape.{Shape}
-use Rattle.array_memory.specs.Memory.{Memory, with_array}
+use Rattle.array_memory.specs.Memory.{Memory}
 use Rattle.array_lookup.specs.Lookups.{first_call}
 use Rattle.router_ranges.specs.Ranges.{bottle_inputs}
 use Rattle.router_questions.specs.Questions.{route_questions}

@@ -1,5 +1,4 @@
 -- `jorivelune::routes::jorivelune_rule` meets its contract: the record is read, `rule` returns, and `store` leaves what the return says. Assumes nothing.
-use borrow.Author.Rules.{rules}
 use Rattle.array_memory.specs.Memory.{with_cells}
 use Rattle.cycle.specs.Calls.{program_call}
 use Rattle.router_ranges.specs.Ranges.{rule_of}

@@ -1,5 +1,4 @@
 -- `jorivelune::routes::jorivelune_rule_at` meets its contract: the answer is taken apart, its number to the caller and its belt to `belt`. Assumes nothing.
-use borrow.Author.Rules.{rules}
 use Rattle.router.specs.Calls.{rule_at_call}
 use Rattle.jorivelune.proofs.Numbers.{calling-told}
 use Rattle.jorivelune.proofs.RouterCalls.{gives-belt}

@@ -2,7 +2,6 @@
 -- the pointers. Assumes nothing.
 use mathlib.Core.Path.{ap, ◌∙◌}
 use Prim.Native.Nat.{ℕ}
-use borrow.Author.Rules.{rules}
 use Rattle.parity.specs.Questions.{first_no}
 use Rattle.parity.specs.declared.Shape.{Shape}
 use Rattle.cycle_sizes.specs.Sizes.{cycle_sizes, no_cycle_sizes, sizes_questions, sizes_call, sized_says}

@@ -1,12 +1,11 @@
 -- `jorivelune::summary::jorivelune_panel` meets its contract: the answer is taken apart, its number to the caller and its three numbers to the
 -- pointers. Assumes nothing.
 use mathlib.Core.Path.{◌≡◌, ap, ◌∙◌}
-use borrow.Author.Rules.{rules}
 use Rattle.parity.specs.Questions.{first_no}
 use Rattle.parity.specs.declared.Shape.{Shape}
 use Rattle.shape.specs.declared.answer.First.{First}
 use Rattle.array_memory.specs.Lengths.{flagged_lengths}
-use Rattle.array_memory.specs.Memory.{Memory, with_flagged}
+use Rattle.array_memory.specs.Memory.{Memory}
 use Rattle.panel.specs.Panel.{no_reading, panel_reading, panel_questions, panel_call}
 use Rattle.panel.specs.Answers.{panel_says}
 use Rattle.panel.specs.declared.Summary.{Summary}
