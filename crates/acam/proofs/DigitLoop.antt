@@ -11,7 +11,7 @@ use Rattle.parity.specs.Lists.{tabulate}
 use Rattle.parity.specs.Shape.{digit, levels}
 use Rattle.parity.specs.Questions.{Taken}
 use Rattle.parity.specs.declared.Shape.{Shape}
-use Rattle.parity.proofs.ListLaws.{get_d_tabulate}
+use Rattle.parity.proofs.ListLaws.{get_or-tabulate}
 use Rattle.parity.proofs.Sums.{check_sum, check_sum-same}
 use Rattle.parity.proofs.Remainders.{same-sym, same-mod}
 use Rattle.parity.proofs.Taken.{limits}
@@ -48,6 +48,6 @@ pub sum-at :
 unfolding digit
 sum-at ρ s power cs cells sums e given ℓ h =
     ap (λ x. x % ρ)
-    (ap (λ xs. get_or xs ℓ 0) given ∙ get_d_tabulate 8 (λ ℓ. check_sum (λ v. v / power) ℓ cs cells) ℓ 0 h
+    (ap (λ xs. get_or xs ℓ 0) given ∙ get_or-tabulate 8 (λ ℓ. check_sum (λ v. v / power) ℓ cs cells) ℓ 0 h
     ∙ ap (λ x. check_sum (λ v. v / x) ℓ cs cells) e)
     ∙ (check_sum-same (λ v. v / ρ ^ s) (λ v. v / ρ ^ s % ρ) (λ v. same-sym (same-mod ρ (v / ρ ^ s))) ℓ cs cells).rem

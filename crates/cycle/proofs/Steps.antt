@@ -13,7 +13,7 @@ use Rattle.parity.specs.Matrix.{cycle_steps}
 use Rattle.parity.specs.Claims.{Below}
 use Rattle.parity.specs.Questions.{Taken}
 use Rattle.parity.specs.declared.Shape.{Shape}
-use Rattle.parity.proofs.ListLaws.{length-tabulate, get_d_tabulate}
+use Rattle.parity.proofs.ListLaws.{length-tabulate, get_or-tabulate}
 use Rattle.schedule.specs.Schedule.{within, schedule}
 use Rattle.schedule.specs.Coarse.{is_balanced_from}
 use Rattle.schedule.specs.Tally.{Tally, tally_step, tally_run, fresh_tally}
@@ -60,7 +60,7 @@ module _ (s : Shape) (st : State) where
       → tally_at (stepped s st) i
       ≡ tally_step s (get_or st.memory.lines i 0) (row_at (columns s) st.memory.cells i) (next_entry s st.cycle) (tally_at st i)
   unfolding stepped stepped_memory looked_up tally_step reset_rows flagged_rows counted_rows entry_matches match_bytes row_match
-  stepped-tally i h = simp get_d_tabulate
+  stepped-tally i h = simp get_or-tabulate
 
   pub stepped-tallies :
       Taken s → (z c : ℕ) → c < cycle_steps z s → st.cycle.skip ≡ z → st.cycle.count ≡ c → Tallies z s st c → Tallies z s (stepped s st) (suc c)

@@ -16,7 +16,7 @@ use Rattle.parity.specs.Match.{match_byte, line_gives, line_match}
 use Rattle.parity.specs.Shape.{levels, columns, cell_count}
 use Rattle.parity.specs.Questions.{Taken}
 use Rattle.parity.specs.declared.Shape.{Shape}
-use Rattle.parity.proofs.ListLaws.{length-tabulate, get_d_tabulate, tabulate-same, tabulate-constant}
+use Rattle.parity.proofs.ListLaws.{length-tabulate, get_or-tabulate, tabulate-same, tabulate-constant}
 use Rattle.schedule.specs.Schedule.{Kind, counts, Entry, within, test_vector}
 use Rattle.schedule.specs.Index.{place_index}
 use Rattle.schedule.specs.Tally.{counted, is_suspect, flagged, reset}
@@ -42,7 +42,7 @@ use Rattle.cycle_lookup.specs.Lookup.{entry_matches, counted_rows, flagged_rows,
 tabulate-list : (n : ℕ) (xs : List ℕ) → length xs ≡ n → tabulate n (λ i. get_or xs i 0) ≡ xs
 tabulate-list n xs sized =
     let all : length (tabulate n (λ i. get_or xs i 0)) ≡ n = length-tabulate n _ in
-    ext_get_or 0 _ xs (all ∙ sym sized) (λ i h. get_d_tabulate n (λ i. get_or xs i 0) i 0 (rw all at h))
+    ext_get_or 0 _ xs (all ∙ sym sized) (λ i h. get_or-tabulate n (λ i. get_or xs i 0) i 0 (rw all at h))
 
 cond-not : (b : Bool) (x y : ℕ) → cond b x y ≡ cond (not b) y x
 cond-not true x y = refl
@@ -89,7 +89,7 @@ module _ (z : ℕ) (s : Shape) (t : Taken s) (p : Place) (stands : Stands z s p)
       ∙ ap (column_matches x mem.lines) (taken ∙ ap₂ (λ n m. column_cells n p.column mem.cells m) wide rows)
       ∙ rw (length-tabulate s.rows cell)
       (tabulate-same s.rows _ _ λ i h.
-      ap (cell_match (get_or mem.lines i 0) x) (get_d_tabulate s.rows cell i 0 h) ∙ sym (test-row x input i h))
+      ap (cell_match (get_or mem.lines i 0) x) (get_or-tabulate s.rows cell i 0 h) ∙ sym (test-row x input i h))
 
 -- an opening's, without a look at the cells: every row's cells say its byte
 pub opening-said :
@@ -120,11 +120,11 @@ count-reduced ρ counters matches =
     let own : ℕ → ℕ = reduced_byte ρ counters in
     rw (length-tabulate m own)
     (tabulate-same m _ _ λ i h.
-    ap (λ counter. (counter + get_or matches i 0) % ρ) (get_d_tabulate m own i 0 h) ∙ mod-add-mod (get_or counters i 0) ρ (get_or matches i 0))
+    ap (λ counter. (counter + get_or matches i 0) % ρ) (get_or-tabulate m own i 0 h) ∙ mod-add-mod (get_or counters i 0) ρ (get_or matches i 0))
 
 -- .. which are below ρ
 pub reduced-below : (ρ : ℕ) → 0 < ρ → (counters : List ℕ) (i : ℕ) → i < length counters → get_or (reduced_bytes ρ counters) i 0 < ρ
-reduced-below ρ some counters i h = rw (get_d_tabulate (length counters) (reduced_byte ρ counters) i 0 h) (mod-lt (get_or counters i 0) some)
+reduced-below ρ some counters i h = rw (get_or-tabulate (length counters) (reduced_byte ρ counters) i 0 h) (mod-lt (get_or counters i 0) some)
 
 -- a digit that is not above those skipped is the lowest of the others
 lowest-at : (z d : ℕ) → z ≤ d → leb d z ≡ eqb d z
@@ -219,7 +219,7 @@ look-reduced s e test mem sized =
     ap left
     (tabulate-same s.rows _ _ λ i h.
     go e.kind (get_or matches i 0) (get_or mem.counters i 0) test
-    (get_d_tabulate (length mem.counters) (reduced_byte s.radix mem.counters) i 0 (omega arith)))
+    (get_or-tabulate (length mem.counters) (reduced_byte s.radix mem.counters) i 0 (omega arith)))
   where
     go :
         (kind : Kind) (byte counter : ℕ) → kind ≡ counts → {own : ℕ} → own ≡ counter % s.radix
@@ -239,8 +239,8 @@ test_below s e test some mem i h =
     let added : ℕ → ℕ = λ i. counted e.kind s.radix (get_or mem.counters i 0) (byte i) in
     let kept : ℕ → ℕ = λ i. cond e.resets 0 (get_or (tabulate s.rows added) i 0) in
     let here =
-    get_d_tabulate s.rows kept i 0 h
-    ∙ ap (cond e.resets 0) (get_d_tabulate s.rows added i 0 h ∙ ap (λ kind. counted kind s.radix (get_or mem.counters i 0) (byte i)) test) in
+    get_or-tabulate s.rows kept i 0 h
+    ∙ ap (cond e.resets 0) (get_or-tabulate s.rows added i 0 h ∙ ap (λ kind. counted kind s.radix (get_or mem.counters i 0) (byte i)) test) in
     rw here (go e.resets (get_or mem.counters i 0 + byte i))
   where
     go : (resets : Bool) (sum : ℕ) → cond resets 0 (sum % s.radix) < s.radix

@@ -10,7 +10,7 @@ use lib.ListN.{length, get_or, set, length-set}
 use lib.Seq.{ext_get_or, get_or-set_same, get_or-set_other}
 use borrow.Author.Tests.{eqb-true, eqb-false}
 use Rattle.parity.specs.Lists.{tabulate}
-use Rattle.parity.proofs.ListLaws.{length-tabulate, get_d_tabulate}
+use Rattle.parity.proofs.ListLaws.{length-tabulate, get_or-tabulate}
 use Rattle.parity.proofs.Filled.{filled, filled-here, filled_next, filled-all}
 
 -- the first i places of the buffer are f's, the rest is as it was
@@ -70,4 +70,4 @@ module _ {f : ℕ → ℕ} {old : List ℕ} {i : ℕ} {buffer : List ℕ} (p : P
   back_end none =
       let all : length (tabulate (length old) f) ≡ length old = length-tabulate (length old) f in
       ext_get_or 0 buffer _ (p.sized ∙ sym all)
-      (λ j h. p.made j (omega arith) (omega (arith, p.sized)) ∙ sym (get_d_tabulate (length old) f j 0 (omega (arith, p.sized))))
+      (λ j h. p.made j (omega arith) (omega (arith, p.sized)) ∙ sym (get_or-tabulate (length old) f j 0 (omega (arith, p.sized))))

@@ -196,7 +196,8 @@ fn steps_at(
     matches: &mut [u8],
 ) -> Changed
     requires padded_lent { PaddedLent shape checks columns padded.now }
-    requires matches_value { first_no (lent_questions shape [] (all_lengths (with_all cells.now lines.now counters.old flags.old totals.old no_memory)) (length matches.old)) ≡ 0 }
+    requires matches_value { first_no (lent_questions shape [] (all_lengths (with_all cells.now lines.now counters.old flags.old totals.old no_memory))
+        (length matches.old)) ≡ 0 }
     ensures { (mem : Memory) → steps_call shape (state_of (with_all cells.now lines.now counters.old flags.old totals.old mem) cycle) most matches.old
         ≡ changing result matches.new (with_all cells.now lines.now counters.new flags.new totals.new mem) }
 {
@@ -250,7 +251,8 @@ pub fn steps_lent(
     totals: &mut [u8],
     matches: &mut [u8],
 ) -> Changed
-    requires { Passed (lent_questions shape [] (all_lengths (with_all cells.now lines.now counters.old flags.old totals.old no_memory)) (length matches.old)) shape sizes }
+    requires { Passed (lent_questions shape [] (all_lengths (with_all cells.now lines.now counters.old flags.old totals.old no_memory))
+        (length matches.old)) shape sizes }
     ensures { (mem : Memory) → steps_call shape (state_of (with_all cells.now lines.now counters.old flags.old totals.old mem) cycle) most matches.old
         ≡ changing result matches.new (with_all cells.now lines.now counters.new flags.new totals.new mem) }
 {

@@ -25,8 +25,10 @@ use Rattle.detection.specs.Examples.{AnsweredExampleClaim, StepsExampleClaim}
 
 pub examples_claim : ExamplesClaim
 unfolding
-    examples run log blank calling zero_rows cleared fresh program_call drift_call lookup_call start_call step_call started stepped stepped_memory drifted row_written
-    task_matches task_count entry_matches counted_rows flagged_rows totalled_blocks reset_rows looked_up step_matches entry_at next_at is_place_of cycle_at is_next
+    examples run log blank calling zero_rows cleared fresh program_call drift_call lookup_call start_call step_call started stepped stepped_memory drifted
+    row_written
+    task_matches task_count entry_matches counted_rows flagged_rows totalled_blocks reset_rows looked_up step_matches entry_at next_at is_place_of cycle_at
+    is_next
     cell_count blocks_of block_at count_flagged block_totals row_at with_row row_match match_bytes flagged reset factors of_digit sweep of_check tests schedule
     unit_vector test_vector match_byte line_gives line_match task_vector
     number check_digit check_cell encode weight of_weight column_order eligible rule_columns check_columns matrix support matrix_ones lookups
@@ -46,7 +48,8 @@ drift_examples_claim = refl
 pub line_examples_claim : LineExamplesClaim
 unfolding
     line_examples run log blank calling zero_rows cleared fresh line_call start_call step_call started stepped stepped_memory line_set
-    entry_matches counted_rows flagged_rows totalled_blocks reset_rows looked_up step_matches entry_at next_at is_place_of cycle_at is_next cell_count blocks_of block_at
+    entry_matches counted_rows flagged_rows totalled_blocks reset_rows looked_up step_matches entry_at next_at is_place_of cycle_at is_next cell_count
+    blocks_of block_at
     count_flagged block_totals row_at row_match match_bytes flagged reset factors of_digit sweep of_check tests schedule unit_vector test_vector match_byte
     line_gives line_match weight of_weight column_order eligible rule_columns check_columns matrix support matrix_ones lookups
     digit levels largest limit redundancy checks columns
@@ -55,9 +58,11 @@ line_examples_claim = refl
 pub coarse_examples_claim : CoarseExamplesClaim
 unfolding
     coarse_cycle run log blank calling zero_rows cleared fresh program_call drift_call start_call step_call started stepped stepped_memory drifted row_written
-    entry_matches counted_rows flagged_rows totalled_blocks reset_rows looked_up step_matches entry_at next_at is_place_of cycle_at is_next cell_count blocks_of block_at
+    entry_matches counted_rows flagged_rows totalled_blocks reset_rows looked_up step_matches entry_at next_at is_place_of cycle_at is_next cell_count
+    blocks_of block_at
     count_flagged
-    block_totals row_at with_row row_match match_bytes flagged reset factors of_digit sweep of_check tests schedule unit_vector test_vector match_byte line_gives line_match
+    block_totals row_at with_row row_match match_bytes flagged reset factors of_digit sweep of_check tests schedule unit_vector test_vector match_byte
+    line_gives line_match
     number check_digit check_cell encode weight of_weight column_order eligible rule_columns check_columns matrix support matrix_ones lookups
     digit levels largest limit redundancy checks columns
 coarse_examples_claim = refl
@@ -65,7 +70,8 @@ coarse_examples_claim = refl
 pub opening_example_claim : OpeningExampleClaim
 unfolding
     run calling zero_rows cleared fresh line_call start_call step_call started stepped stepped_memory line_set
-    entry_matches counted_rows flagged_rows totalled_blocks reset_rows looked_up step_matches entry_at next_at is_place_of cycle_at is_next cell_count blocks_of block_at
+    entry_matches counted_rows flagged_rows totalled_blocks reset_rows looked_up step_matches entry_at next_at is_place_of cycle_at is_next cell_count
+    blocks_of block_at
     count_flagged block_totals row_at row_match match_bytes flagged reset factors of_digit sweep of_check tests schedule unit_vector test_vector match_byte
     line_gives line_match weight of_weight column_order eligible rule_columns check_columns matrix support matrix_ones lookups
     digit levels largest limit redundancy checks columns
@@ -73,8 +79,10 @@ opening_example_claim = record { matches = refl; flags = refl; counters = refl; 
 
 pub shorted_example_claim : ShortedExampleClaim
 unfolding
-    run log blank calling zero_rows cleared fresh program_call line_call lookup_call first_call start_call step_call started stepped stepped_memory row_written line_set
-    task_matches task_count entry_matches counted_rows flagged_rows totalled_blocks reset_rows looked_up step_matches entry_at next_at is_place_of cycle_at is_next
+    run log blank calling zero_rows cleared fresh program_call line_call lookup_call first_call start_call step_call started stepped stepped_memory
+    row_written line_set
+    task_matches task_count entry_matches counted_rows flagged_rows totalled_blocks reset_rows looked_up step_matches entry_at next_at is_place_of cycle_at
+    is_next
     cell_count blocks_of block_at count_flagged block_totals row_at with_row row_match match_bytes flagged reset factors of_digit sweep of_check tests schedule
     unit_vector test_vector match_byte line_gives line_match task_vector
     number check_digit check_cell encode weight of_weight column_order eligible rule_columns check_columns matrix support matrix_ones lookups
@@ -83,16 +91,21 @@ shorted_example_claim = record { refused = refl; looked = refl; high = refl; fou
 
 pub ask_example_claim : AskExampleClaim
 unfolding
-    asking run log blank calling zero_rows cleared fresh program_call commit_call ask_call drift_call start_call step_call started stepped stepped_memory drifted
-    row_written entry_matches counted_rows flagged_rows totalled_blocks reset_rows looked_up step_matches entry_at next_at is_place_of cycle_at is_next cell_count blocks_of
-    block_at count_flagged block_totals row_at with_row row_match match_bytes flagged reset factors of_digit sweep of_check tests schedule unit_vector test_vector
-    match_byte line_gives line_match is_codeword number check_digit check_cell encode weight of_weight column_order eligible rule_columns check_columns matrix support
+    asking run log blank calling zero_rows cleared fresh program_call commit_call ask_call drift_call start_call step_call started stepped stepped_memory
+    drifted
+    row_written entry_matches counted_rows flagged_rows totalled_blocks reset_rows looked_up step_matches entry_at next_at is_place_of cycle_at is_next
+    cell_count blocks_of
+    block_at count_flagged block_totals row_at with_row row_match match_bytes flagged reset factors of_digit sweep of_check tests schedule unit_vector
+    test_vector
+    match_byte line_gives line_match is_codeword number check_digit check_cell encode weight of_weight column_order eligible rule_columns check_columns matrix
+    support
     matrix_ones lookups digit levels largest limit redundancy checks columns
 ask_example_claim = record { changed = refl; finished = refl; left = refl }
 
 pub commit_example_claim : CommitExampleClaim
 unfolding
-    run calling zero_rows cleared fresh program_call commit_call ask_call row_written cell_count blocks_of row_at with_row is_codeword number check_digit check_cell encode
+    run calling zero_rows cleared fresh program_call commit_call ask_call row_written cell_count blocks_of row_at with_row is_codeword number check_digit
+    check_cell encode
     weight of_weight column_order eligible rule_columns check_columns matrix support digit levels largest limit redundancy checks columns
 commit_example_claim = record { changed = refl; finished = refl; unsound = refl; high = refl }
 
@@ -100,16 +113,21 @@ pub refused_example_claim : RefusedExampleClaim
 unfolding
     refused_calls run calling zero_rows cleared fresh program_call commit_call ask_call lookup_call drift_call line_call start_call step_call started stepped
     stepped_memory row_written task_matches task_count task_vector drifted line_set entry_matches counted_rows flagged_rows totalled_blocks reset_rows looked_up
-    step_matches entry_at next_at is_place_of cycle_at is_next cell_count blocks_of block_at count_flagged block_totals row_at with_row row_match match_bytes flagged reset factors of_digit sweep of_check tests schedule unit_vector test_vector match_byte line_gives line_match is_codeword number check_digit check_cell encode weight
+    step_matches entry_at next_at is_place_of cycle_at is_next cell_count blocks_of block_at count_flagged block_totals row_at with_row row_match match_bytes
+    flagged reset factors of_digit sweep of_check tests schedule unit_vector test_vector match_byte line_gives line_match is_codeword number check_digit
+    check_cell encode weight
     of_weight column_order eligible rule_columns check_columns matrix support matrix_ones lookups digit levels largest limit redundancy checks columns
 refused_example_claim = record { numbers = refl; closed = refl }
 
 pub answered_example_claim : AnsweredExampleClaim
 unfolding
-    run calling zero_rows cleared fresh program_call ask_call lookup_call task_matches task_count task_vector start_call step_call started stepped stepped_memory
-    row_written entry_matches counted_rows flagged_rows totalled_blocks reset_rows looked_up step_matches entry_at next_at is_place_of cycle_at is_next cell_count
+    run calling zero_rows cleared fresh program_call ask_call lookup_call task_matches task_count task_vector start_call step_call started stepped
+    stepped_memory
+    row_written entry_matches counted_rows flagged_rows totalled_blocks reset_rows looked_up step_matches entry_at next_at is_place_of cycle_at is_next
+    cell_count
     blocks_of block_at count_flagged block_totals row_at with_row row_match match_bytes flagged reset factors of_digit sweep of_check tests schedule unit_vector
-    test_vector match_byte line_gives line_match number check_digit check_cell encode weight of_weight column_order eligible rule_columns check_columns matrix support
+    test_vector match_byte line_gives line_match number check_digit check_cell encode weight of_weight column_order eligible rule_columns check_columns matrix
+    support
     matrix_ones lookups digit levels largest limit redundancy checks columns
 answered_example_claim = record { matched = refl; counted = refl; unmatched = refl; finished = refl; changed = refl; stepped = refl }
 
@@ -117,7 +135,8 @@ pub steps_example_claim : StepsExampleClaim
 unfolding
     steps_call run calling zero_rows cleared fresh program_call start_call step_call started stepped stepped_memory row_written entry_matches counted_rows
     flagged_rows totalled_blocks reset_rows looked_up step_matches entry_at next_at is_place_of cycle_at is_next cell_count blocks_of block_at count_flagged
-    block_totals row_at with_row row_match match_bytes flagged reset factors of_digit sweep of_check tests schedule unit_vector test_vector match_byte line_gives line_match
+    block_totals row_at with_row row_match match_bytes flagged reset factors of_digit sweep of_check tests schedule unit_vector test_vector match_byte
+    line_gives line_match
     number check_digit check_cell encode weight of_weight column_order eligible rule_columns check_columns matrix support matrix_ones lookups digit levels
     largest limit redundancy checks columns
 steps_example_claim = record { counts = refl; all = refl; all_matches = refl; matches = refl; taken = refl; ended = refl }

@@ -24,7 +24,15 @@ use Rattle.array_memory.specs.Lengths.{Sized}
 use Rattle.array_memory.specs.Memory.{Memory, with_cells, with_lines}
 use Rattle.array_memory.proofs.Asked.{array-lent, rows-kept}
 use Rattle.array_memory.proofs.RowPlaces.{row-cell}
-use Rattle.array_questions.specs.Questions.{cells_questions, program_arguments, ask_arguments, commit_arguments, drift_arguments, line_arguments, start_arguments}
+use Rattle.array_questions.specs.Questions.{
+  cells_questions,
+  program_arguments,
+  ask_arguments,
+  commit_arguments,
+  drift_arguments,
+  line_arguments,
+  start_arguments,
+}
 use Rattle.array_questions.proofs.Asked.{program-reads, commit-reads, Drifts, drift-reads}
 use Rattle.array.specs.Calls.{row_written, ask_call, drifted, drift_call, line_set, line_call}
 use Rattle.array_lookup.specs.Lookups.{lookup_arguments, lookup_call}

@@ -9,7 +9,7 @@ use lib.Seq.{ext_get_or}
 use Rattle.parity.specs.Lists.{tabulate}
 use Rattle.parity.specs.Questions.{Question, first_no, lengths_question}
 use Rattle.parity.specs.declared.Shape.{Shape}
-use Rattle.parity.proofs.ListLaws.{length-tabulate, get_d_tabulate}
+use Rattle.parity.proofs.ListLaws.{length-tabulate, get_or-tabulate}
 use Rattle.array_questions.specs.Questions.{step_arguments, lent_questions}
 use Rattle.schedule.specs.Schedule.{Entry, opening, dead_opening, shorted_opening, schedule}
 use Rattle.schedule.specs.Tally.{reset}
@@ -29,7 +29,7 @@ read_all : (bytes : List ℕ) (m : ℕ) → length bytes ≡ m → tabulate m (�
 read_all bytes m e =
     let read : ℕ → ℕ = λ i. get_or bytes i 0 in
     let many : length (tabulate m read) ≡ m = length-tabulate m read in
-    ext_get_or 0 (tabulate m read) bytes (many ∙ sym e) (λ i h. get_d_tabulate m read i 0 (omega arith))
+    ext_get_or 0 (tabulate m read) bytes (many ∙ sym e) (λ i h. get_or-tabulate m read i 0 (omega arith))
 
 -- an opening counts and resets nothing
 opened :

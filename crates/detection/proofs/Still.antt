@@ -15,7 +15,7 @@ use Rattle.parity.specs.Claims.{Below}
 use Rattle.parity.specs.Questions.{Taken}
 use Rattle.parity.specs.declared.Shape.{Shape}
 use Rattle.parity.proofs.Taken.{limits}
-use Rattle.parity.proofs.ListLaws.{length-tabulate, get_d_tabulate, tabulate-same}
+use Rattle.parity.proofs.ListLaws.{length-tabulate, get_or-tabulate, tabulate-same}
 use Rattle.schedule.specs.Coarse.{is_balanced_from}
 use Rattle.schedule.proofs.Balanced.{sound-test}
 use Rattle.array_memory.specs.Geometry.{row_at}
@@ -45,7 +45,7 @@ module _ (z : ℕ) (s : Shape) (t : Taken s) where
       let l : i < s.rows = omega (arith, u.sized.rows.flags) in
       tallies-ended s st t z u.tallies i l (row_sized s st.memory.cells i u.sized.cells l) (row_below s st.memory.cells i l below')
       ∙ ap₂ (λ held lines. quiet held lines i) u.still.0 u.still.1
-      ∙ sym (get_d_tabulate s.rows (quiet cells lines) i 0 l))
+      ∙ sym (get_or-tabulate s.rows (quiet cells lines) i 0 l))
 
 pub still_claim : StillClaim
 still_claim z s t lt st lent below buffers sized whole =

@@ -1,5 +1,29 @@
 -- Demand 3 as one type, and the theorems beside it; the proofs are in proofs/.
-use Rattle.std.specs.Prelude.{◌≡◌, ◌↔◌, ◌≢◌, true, false, cond, ◌&&◌, List, [], ◌∷◌, ◌++◌, map, ℕ, suc, ◌-◌, ◌*◌, ◌≤◌, ◌<◌, eqb, length, get_or, take, replicate}
+use Rattle.std.specs.Prelude.{
+  ◌≡◌,
+  ◌↔◌,
+  ◌≢◌,
+  true,
+  false,
+  cond,
+  ◌&&◌,
+  List,
+  [],
+  ◌∷◌,
+  ◌++◌,
+  map,
+  ℕ,
+  suc,
+  ◌-◌,
+  ◌*◌,
+  ◌≤◌,
+  ◌<◌,
+  eqb,
+  length,
+  get_or,
+  take,
+  replicate,
+}
 use Rattle.parity.specs.Lists.{tabulate, joined, differences}
 use Rattle.parity.specs.Shape.{levels, columns, cell_count}
 use Rattle.parity.specs.Matrix.{matrix_ones, cycle_steps}
@@ -171,7 +195,8 @@ OpeningClaim =
     → (step_call s st matches).state.memory.counters ≡ st.memory.counters
 
 -- On an array that stays still, with all cells below q, a start with z and a whole cycle leave flags that say exactly which rows have a line that
--- isn't sound or a digit sum of some s from z on that isn't 0 mod ρ, whatever counters and flags were before; also beyond τ changed cells. (`is_balanced_from` is
+-- isn't sound or a digit sum of some s from z on that isn't 0 mod ρ, whatever counters and flags were before; also beyond τ changed cells.
+-- (`is_balanced_from` is
 -- `BalancedFrom` as a test: `BalancedClaim` of schedule.)
 abbrev pub StillClaim : Type 0
 StillClaim =

@@ -7,7 +7,15 @@ use Rattle.parity.specs.Matrix.{cycle_steps}
 use Rattle.parity.specs.Codeword.{encode}
 use Rattle.parity.specs.Questions.{Question, first_no, if_taken}
 use Rattle.parity.specs.declared.Shape.{Shape}
-use Rattle.array_questions.specs.Questions.{drift_arguments, line_arguments, program_arguments, ask_arguments, commit_arguments, start_arguments, step_arguments}
+use Rattle.array_questions.specs.Questions.{
+  drift_arguments,
+  line_arguments,
+  program_arguments,
+  ask_arguments,
+  commit_arguments,
+  start_arguments,
+  step_arguments,
+}
 use Rattle.array_lookup.specs.Lookups.{lookup_arguments}
 use Rattle.call_lists.specs.Run.{Call, clear, start, program, ask, commit, drift, line, lookup, step}
 

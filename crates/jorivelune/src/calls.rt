@@ -14,8 +14,7 @@ use parity::Shape;
 use record_words::{cycle_of, store};
 
 // Clear: cells, lines, counters, flags and totals all 0, record idle: the fresh array.
-#[unsafe(no_mangle)]
-pub extern "C" fn jorivelune_clear(
+pub fn jorivelune_clear(
     words: &mut [usize; 7],
     shape: Shape,
     cells: &mut [u8],
@@ -35,8 +34,7 @@ pub extern "C" fn jorivelune_clear(
 }
 
 // Program: writes a row of k levels with its check cells; the record becomes idle.
-#[unsafe(no_mangle)]
-pub extern "C" fn jorivelune_program(
+pub fn jorivelune_program(
     words: &mut [usize; 7],
     shape: Shape,
     cells: &mut [u8],
@@ -51,8 +49,7 @@ pub extern "C" fn jorivelune_program(
 }
 
 // Commit: writes a finished row of n cells, as ask gives it; the record becomes idle.
-#[unsafe(no_mangle)]
-pub extern "C" fn jorivelune_commit(
+pub fn jorivelune_commit(
     words: &mut [usize; 7],
     shape: Shape,
     cells: &mut [u8],
@@ -68,8 +65,7 @@ pub extern "C" fn jorivelune_commit(
 
 // Start: counters, flags and totals 0, record open, count 0, its opening next, also when a cycle was open. The cycle skips a
 // number of low digits: 0 for the whole cycle.
-#[unsafe(no_mangle)]
-pub extern "C" fn jorivelune_start(
+pub fn jorivelune_start(
     words: &mut [usize; 7],
     shape: Shape,
     skip: usize,
@@ -86,8 +82,7 @@ pub extern "C" fn jorivelune_start(
 
 // Step: makes the next lookup of the schedule, an opening or a test, and writes the match bytes; where it looks for rows to
 // flag, counts the blocks' totals anew.
-#[unsafe(no_mangle)]
-pub extern "C" fn jorivelune_step(
+pub fn jorivelune_step(
     words: &mut [usize; 7],
     shape: Shape,
     cells: &[u8],
@@ -109,8 +104,7 @@ pub extern "C" fn jorivelune_step(
 }
 
 // Steps: at most so many of the open cycle, one after the other, up to its end. The match bytes are those of the last one.
-#[unsafe(no_mangle)]
-pub extern "C" fn jorivelune_steps(
+pub fn jorivelune_steps(
     words: &mut [usize; 7],
     shape: Shape,
     most: usize,
@@ -135,8 +129,7 @@ pub extern "C" fn jorivelune_steps(
 }
 
 // One whole cycle: a start and all its steps.
-#[unsafe(no_mangle)]
-pub extern "C" fn jorivelune_run(
+pub fn jorivelune_run(
     words: &mut [usize; 7],
     shape: Shape,
     skip: usize,

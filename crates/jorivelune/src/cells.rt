@@ -42,14 +42,7 @@ fn tell(answer: Answer, value: &mut usize) -> u8
 }
 
 // Drift: one cell changes to a level, and nothing else.
-#[unsafe(no_mangle)]
-pub extern "C" fn jorivelune_drift(
-    shape: Shape,
-    cells: &mut [u8],
-    row: usize,
-    column: usize,
-    level: u8,
-) -> u8
+pub fn jorivelune_drift(shape: Shape, cells: &mut [u8], row: usize, column: usize, level: u8) -> u8
     ensures { (mem : Memory) → drift_call shape (with_cells cells.old mem) row column level
         ≡ giving (telling result 0) [] (with_cells cells.new mem) }
 {
@@ -57,8 +50,7 @@ pub extern "C" fn jorivelune_drift(
 }
 
 // Line: one row's match line becomes sound, 0, dead, 1, or shorted, 2, and nothing else changes.
-#[unsafe(no_mangle)]
-pub extern "C" fn jorivelune_line(shape: Shape, lines: &mut [u8], row: usize, byte: u8) -> u8
+pub fn jorivelune_line(shape: Shape, lines: &mut [u8], row: usize, byte: u8) -> u8
     ensures { (mem : Memory) → line_call shape (with_lines lines.old mem) row byte
         ≡ giving (telling result 0) [] (with_lines lines.new mem) }
 {
@@ -66,8 +58,7 @@ pub extern "C" fn jorivelune_line(shape: Shape, lines: &mut [u8], row: usize, by
 }
 
 // Read: copies the k rule cells of a row out.
-#[unsafe(no_mangle)]
-pub extern "C" fn jorivelune_read(shape: Shape, cells: &[u8], row: usize, out: &mut [u8]) -> u8
+pub fn jorivelune_read(shape: Shape, cells: &[u8], row: usize, out: &mut [u8]) -> u8
     ensures { (mem : Memory) → read_call shape (with_cells cells.now mem) row out.old
         ≡ giving (telling result 0) out.new (with_cells cells.now mem) }
 {
@@ -76,8 +67,7 @@ pub extern "C" fn jorivelune_read(shape: Shape, cells: &[u8], row: usize, out: &
 
 // Ask: the finished row of these levels goes to `finished`, and the number of its cells that differ from the row as it
 // stands to `changed`, 0 where the call is refused.
-#[unsafe(no_mangle)]
-pub extern "C" fn jorivelune_ask(
+pub fn jorivelune_ask(
     shape: Shape,
     cells: &[u8],
     row: usize,
@@ -93,8 +83,7 @@ pub extern "C" fn jorivelune_ask(
 
 // Task lookup, by inputs of 16 bits, since they run to q: one match byte per row; the number of matches goes to `count`, 0 where
 // the call is refused.
-#[unsafe(no_mangle)]
-pub extern "C" fn jorivelune_lookup(
+pub fn jorivelune_lookup(
     shape: Shape,
     cells: &[u8],
     lines: &[u8],
@@ -110,8 +99,7 @@ pub extern "C" fn jorivelune_lookup(
 
 // First match, by inputs as in a task lookup: the first matching row goes to `found`, m where there is none, 0 where the call is
 // refused.
-#[unsafe(no_mangle)]
-pub extern "C" fn jorivelune_first_match(
+pub fn jorivelune_first_match(
     shape: Shape,
     cells: &[u8],
     lines: &[u8],
@@ -138,8 +126,7 @@ pub extern "C" fn jorivelune_first_match(
 }
 
 // Sound: whether the row is sound goes to `holds`, false where the call is refused.
-#[unsafe(no_mangle)]
-pub extern "C" fn jorivelune_sound(shape: Shape, cells: &[u8], row: usize, holds: &mut bool) -> u8
+pub fn jorivelune_sound(shape: Shape, cells: &[u8], row: usize, holds: &mut bool) -> u8
     ensures { (mem : Memory) → sound_call shape (with_cells cells.now mem) row ≡ telling result holds.new }
 {
     match sound(shape, cells, row) {

@@ -16,8 +16,7 @@ use router::route::route;
 use router::rule::rule;
 
 // Rule: a row becomes a rule, by its ranges and its belt; the record becomes idle.
-#[unsafe(no_mangle)]
-pub extern "C" fn jorivelune_rule(
+pub fn jorivelune_rule(
     words: &mut [usize; 7],
     shape: Shape,
     cells: &mut [u8],
@@ -40,8 +39,7 @@ pub extern "C" fn jorivelune_rule(
 
 // Route: the first row whose rule holds the bottle goes to `found`, m where there is none, and its belt to `belt`, 0 where there is
 // none; both are 0 where the call is refused.
-#[unsafe(no_mangle)]
-pub extern "C" fn jorivelune_route(
+pub fn jorivelune_route(
     shape: Shape,
     cells: &[u8],
     lines: &[u8],
@@ -73,8 +71,7 @@ pub extern "C" fn jorivelune_route(
 }
 
 // Rule at: the ranges that stand in a row go to `lows` and `highs`, and its belt to `belt`, 0 where the call is refused.
-#[unsafe(no_mangle)]
-pub extern "C" fn jorivelune_rule_at(
+pub fn jorivelune_rule_at(
     shape: Shape,
     cells: &[u8],
     belts: &[u8],

@@ -8,8 +8,7 @@ use parity::Shape;
 
 // Sizes: q, r, n, m × n, the blocks of rows, and the steps of a cycle that skips so many low digits; all six are 0 where the call
 // is refused.
-#[unsafe(no_mangle)]
-pub extern "C" fn jorivelune_sizes(
+pub fn jorivelune_sizes(
     shape: Shape,
     skip: usize,
     levels: &mut usize,

@@ -10,8 +10,7 @@ use shape::answer::First;
 
 // Panel: the sum of the totals goes to `total`, the first flagged row to `first`, m where there is none, and the number of
 // flags that were read to `read`; all three are 0 where the call is refused.
-#[unsafe(no_mangle)]
-pub extern "C" fn jorivelune_panel(
+pub fn jorivelune_panel(
     shape: Shape,
     flags: &[u8],
     totals: &[u8],

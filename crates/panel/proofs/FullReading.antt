@@ -12,7 +12,7 @@ use borrow.Author.Tests.{ltb-true, ltb-false, lt-ltb, le-ltb}
 use Rattle.parity.specs.Lists.{tabulate, sum_over, sum_to}
 use Rattle.parity.specs.Questions.{first_no, lengths_question}
 use Rattle.parity.proofs.Alongside.{equal-alongside}
-use Rattle.parity.proofs.ListLaws.{length-tabulate, get_d_tabulate, sum-append}
+use Rattle.parity.proofs.ListLaws.{length-tabulate, get_or-tabulate, sum-append}
 use Rattle.shape.specs.Answers.{row, none, row_or_none, accepted}
 use Rattle.shape.proofs.Refusals.{call-rest}
 use Rattle.array_memory.specs.Blocks.{blocks_of, block_at, count_flagged, block_totals}
@@ -60,7 +60,7 @@ module _ (flags : List ℕ) where
   -- total i, where it is one
   total-at : (i : ℕ) → i < length (block_totals flags) → get_or (block_totals flags) i 0 ≡ total i
   unfolding block_totals
-  total-at i h = get_d_tabulate (blocks_of (length flags)) total i 0 (omega (arith, length-tabulate (blocks_of (length flags)) total))
+  total-at i h = get_or-tabulate (blocks_of (length flags)) total i 0 (omega (arith, length-tabulate (blocks_of (length flags)) total))
 
   -- ---- where no total is up, no row is flagged
   none-flagged : any_nonzero (block_totals flags) ≡ false → none ≡ first_flagged flags

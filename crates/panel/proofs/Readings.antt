@@ -19,7 +19,8 @@ module _ (flags totals : List ℕ) {total : ℕ} (summed : total ≡ sum_over to
   block = block_at flags (first_nonzero totals)
 
   pub reads-block :
-      any_nonzero totals ≡ true → (b : Bool) → any_nonzero block ≡ b → {first : Found} → first ≡ cond b (row (first_nonzero totals * 64 + first_nonzero block)) none
+      any_nonzero totals ≡ true → (b : Bool) → any_nonzero block ≡ b
+      → {first : Found} → first ≡ cond b (row (first_nonzero totals * 64 + first_nonzero block)) none
       → {read : ℕ} → read ≡ cond b (suc (first_nonzero block)) (length block) → reading total first read ≡ panel_reading flags totals
   unfolding panel_reading
   reads-block e b f found counted = rw (e, f, summed, found, counted) refl

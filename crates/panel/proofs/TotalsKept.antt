@@ -68,7 +68,8 @@ module _ (s : Shape) where
 
   -- clear, start and step write flags and totals, and no other call does
   keeps : (st : State) (c : Call) → Holds st → Holds (after s st c)
-  unfolding clear_call cleared program_call commit_call row_written start_call started ask_call drift_call drifted line_call line_set lookup_call step_call stepped
+  unfolding clear_call cleared program_call commit_call row_written start_call started ask_call drift_call drifted line_call line_set lookup_call step_call
+      stepped
   keeps st clear t = call-keeps _ _ st _ Holds t (zeroed st.memory)
   keeps st (start z) t = call-keeps _ _ st _ Holds t (zeroed st.memory)
   keeps st (step matches) t = call-keeps _ _ st _ Holds t (counted-anew st t)

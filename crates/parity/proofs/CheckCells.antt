@@ -11,7 +11,7 @@ use Rattle.parity.specs.Shape.{digit}
 use Rattle.parity.specs.Matrix.{bit, check_columns}
 use Rattle.parity.proofs.Digits.{digit-zero, digit-suc}
 use Rattle.parity.proofs.Sums.{bit-beyond, check_sum}
-use Rattle.parity.proofs.ListLaws.{length-tabulate, get_d_tabulate}
+use Rattle.parity.proofs.ListLaws.{length-tabulate, get_or-tabulate}
 
 -- columns without a one in the check row add nothing
 pub check_sum-none :
@@ -55,7 +55,7 @@ check_columns-sized r = length-tabulate r (λ i. 2 ^ i)
 
 pub check_column : (r i : ℕ) → i < r → get_or (check_columns r) i 0 ≡ 2 ^ i
 unfolding check_columns
-check_column r i = get_d_tabulate r (λ i. 2 ^ i) i 0
+check_column r i = get_or-tabulate r (λ i. 2 ^ i) i 0
 
 pub check_sum-check_columns :
     (f : ℕ → ℕ) (ℓ r : ℕ) (ws : List ℕ) → length ws ≡ r → ℓ < r → check_sum f ℓ (check_columns r) ws ≡ f (get_or ws ℓ 0)

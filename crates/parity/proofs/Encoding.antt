@@ -20,7 +20,7 @@ use Rattle.parity.proofs.Sums.{digit_sum-check_sum, check_sum-append}
 use Rattle.parity.proofs.Taken.{limits}
 use Rattle.parity.proofs.MatrixFacts.{rules-sized}
 use Rattle.parity.proofs.CheckCells.{check_columns-sized, check_sum-check_columns}
-use Rattle.parity.proofs.ListLaws.{length-tabulate, get_d_tabulate, Each, each_append, each-tabulate}
+use Rattle.parity.proofs.ListLaws.{length-tabulate, get_or-tabulate, Each, each_append, each-tabulate}
 
 -- the one number below ρ that brings x to 0 mod ρ
 balances : {ρ : ℕ} (x : ℕ) → 0 < ρ → (x + (ρ - x % ρ) % ρ) % ρ ≡ 0
@@ -91,14 +91,14 @@ module _ (s : Shape) (pos : 0 < s.radix) (sized : length (rule_columns s.errors 
       check_below = each-tabulate level (checks s) (check_cell s rule) (λ i lt. check-cell-below s pos rule i)
 
       check_digits : (ℓ t : ℕ) → ℓ < checks s → t < s.digits → digit s.radix t (get_or check ℓ 0) ≡ check_digit s rule ℓ t
-      check_digits ℓ t lt ht = ap (digit s.radix t) (get_d_tabulate (checks s) (check_cell s rule) ℓ 0 lt) ∙ check-cell-digit s pos rule ℓ t ht
+      check_digits ℓ t lt ht = ap (digit s.radix t) (get_or-tabulate (checks s) (check_cell s rule) ℓ 0 lt) ∙ check-cell-digit s pos rule ℓ t ht
 
   pub only : (rule check : List ℕ) → length rule ≡ s.width → Codeword s (rule ++ check) → rule ++ check ≡ encode s rule
   unfolding encode columns levels check_digit
   only rule check er c =
       ap (λ x. rule ++ x)
       (ext_get_or 0 check (tabulate (checks s) (check_cell s rule)) (ec ∙ sym (length-tabulate (checks s) (check_cell s rule)))
-      (λ ℓ h. cell ℓ (omega (arith, ec)) ∙ sym (get_d_tabulate (checks s) (check_cell s rule) ℓ 0 (omega (arith, ec)))))
+      (λ ℓ h. cell ℓ (omega (arith, ec)) ∙ sym (get_or-tabulate (checks s) (check_cell s rule) ℓ 0 (omega (arith, ec)))))
     where
       ec : length check ≡ checks s
       ec = omega (arith, length-append rule check)

@@ -18,7 +18,21 @@ use Rattle.parity.specs.Questions.{Taken}
 use Rattle.parity.specs.Claims.{Among, Precedes, Ordered}
 use Rattle.parity.specs.Fewest.{Choice, FewestClaim, ones_beside, FewestLookups, FewestLookupsClaim, AcrossClaim, ChoiceExamplesClaim}
 use Rattle.parity.specs.declared.Shape.{Shape}
-use Rattle.parity.proofs.ListLaws.{sum-append, every-at, Each, each_append, each-tabulate, Pairwise, chained, chained-pairs, pairs-head, pairs-tail, pairs-keep, keep_all, among-keep}
+use Rattle.parity.proofs.ListLaws.{
+  sum-append,
+  every-at,
+  Each,
+  each_append,
+  each-tabulate,
+  Pairwise,
+  chained,
+  chained-pairs,
+  pairs-head,
+  pairs-tail,
+  pairs-keep,
+  keep_all,
+  among-keep,
+}
 use Rattle.parity.proofs.Taken.{limits}
 use Rattle.parity.proofs.Redundancy.{redundancy_claim}
 use Rattle.parity.proofs.RuleColumns.{candidates, rule-columns, eligible-below, candidates-ordered, candidates-complete, rules-first}

@@ -33,12 +33,12 @@ module _ {ℓ} {A : Type ℓ} where
   length-tabulate zero f = refl
   length-tabulate (suc n) f = omega (arith, length-append (tabulate n f) (f n ∷ []), length-tabulate n f)
 
-  pub get_d_tabulate : (n : ℕ) (f : ℕ → A) (i : ℕ) (d : A) → i < n → get_or (tabulate n f) i d ≡ f i
-  get_d_tabulate zero f i d h = absurd (not-suc-le-zero h)
-  get_d_tabulate (suc n) f i d h =
+  pub get_or-tabulate : (n : ℕ) (f : ℕ → A) (i : ℕ) (d : A) → i < n → get_or (tabulate n f) i d ≡ f i
+  get_or-tabulate zero f i d h = absurd (not-suc-le-zero h)
+  get_or-tabulate (suc n) f i d h =
       ⊎_elim
       (λ (e : i ≡ n). rw e (get_or_at (tabulate n f) (f n) [] d n (length-tabulate n f)))
-      (λ (l : i < n). get_or-append (tabulate n f) (f n ∷ []) d i (rw (length-tabulate n f) l) ∙ get_d_tabulate n f i d l)
+      (λ (l : i < n). get_or-append (tabulate n f) (f n ∷ []) d i (rw (length-tabulate n f) l) ∙ get_or-tabulate n f i d l)
       (eq-or-lt_of_le (le_of_suc-le-suc h))
 
   pub tabulate-same : (n : ℕ) (f g : ℕ → A) → ((i : ℕ) → i < n → f i ≡ g i) → tabulate n f ≡ tabulate n g
@@ -124,7 +124,7 @@ module _ (P : ℕ → Type 0) where
   pub each-tabulate : (n : ℕ) (f : ℕ → ℕ) → ((i : ℕ) → i < n → P (f i)) → Each P (tabulate n f)
   each-tabulate n f h j l =
       let l' : j < n = rw length-tabulate at l in
-      rw (get_d_tabulate n f j 0 l') (h j l')
+      rw (get_or-tabulate n f j 0 l') (h j l')
 
   -- what is kept passes the test
   pub each_keep : (p : ℕ → Bool) (xs : List ℕ) → Each (λ x. p x ≡ true → P x) xs → Each P (keep p xs)
@@ -173,7 +173,7 @@ module _ (R : ℕ → ℕ → Type 0) where
   pairs-tabulate n f h i j l m =
       let j' : j < n = rw length-tabulate at m in
       let i' : i < n = omega arith in
-      rw (get_d_tabulate n f i, get_d_tabulate n f j) (h i j l j')
+      rw (get_or-tabulate n f i, get_or-tabulate n f j) (h i j l j')
 
   pub pairs-keep : (p : ℕ → Bool) (xs : List ℕ) → Pairwise R xs → Pairwise R (keep p xs)
   pairs-keep p [] h = λ i j l m. absurd (not-suc-le-zero m)
@@ -229,7 +229,7 @@ pub among-append-right : (c : ℕ) (xs ys : List ℕ) → Among c ys → Among c
 among-append-right c xs ys a = (length xs + a.0, omega (arith, length-append xs ys), get_or-append-add xs ys a.0 0 ∙ a.2)
 
 pub among-tabulate : (n : ℕ) (f : ℕ → ℕ) (i : ℕ) → i < n → Among (f i) (tabulate n f)
-among-tabulate n f i h = (i, rw length-tabulate h, get_d_tabulate n f i 0 h)
+among-tabulate n f i h = (i, rw length-tabulate h, get_or-tabulate n f i 0 h)
 
 pub among-joined : (c n : ℕ) (f : ℕ → List ℕ) (w : ℕ) → w < n → Among c (f w) → Among c (joined n f)
 among-joined c zero f w h a = absurd (not-suc-le-zero h)

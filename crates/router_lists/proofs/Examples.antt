@@ -28,7 +28,8 @@ book_example_claim = (refl, refl)
 
 pub routes_example_claim : RoutesExampleClaim
 unfolding
-    book bottles run_router route_call rule_call calling zero_rows cleared fresh program_call row_written with_row row_at row_match first_call rule_levels bottle_inputs
+    book bottles run_router route_call rule_call calling zero_rows cleared fresh program_call row_written with_row row_at row_match first_call rule_levels
+    bottle_inputs
     features cell_count match_byte line_gives line_match task_vector
     number check_digit check_cell encode weight of_weight column_order eligible rule_columns check_columns matrix support
     digit levels largest limit redundancy checks columns
@@ -36,7 +37,8 @@ routes_example_claim = refl
 
 pub histories_example_claim : HistoriesExampleClaim
 unfolding
-    book histories run_router route_call rule_call calling zero_rows cleared fresh clear_call program_call drift_call line_call row_written drifted line_set with_row row_at
+    book histories run_router route_call rule_call calling zero_rows cleared fresh clear_call program_call drift_call line_call row_written drifted line_set
+    with_row row_at
     row_match first_call rule_levels bottle_inputs features cell_count blocks_of match_byte line_gives line_match task_vector
     number check_digit check_cell encode weight of_weight column_order eligible rule_columns check_columns matrix support
     digit levels largest limit redundancy checks columns

@@ -7,7 +7,7 @@ use native.Mathlib.Omega.{arith}
 use lib.ListN.{length, get_or}
 use lib.Seq.{ext_get_or}
 use Rattle.parity.specs.Lists.{tabulate}
-use Rattle.parity.proofs.ListLaws.{Each, each-cons, length-tabulate, get_d_tabulate}
+use Rattle.parity.proofs.ListLaws.{Each, each-cons, length-tabulate, get_or-tabulate}
 use Rattle.router_ranges.specs.Ranges.{paired}
 
 module _ (top : ℕ) where
@@ -45,4 +45,4 @@ module _ (top : ℕ) where
 pub tabulate-places : (n : ℕ) (f : ℕ → ℕ) (xs : List ℕ) → length xs ≡ n → ((i : ℕ) → i < n → f i ≡ get_or xs i 0) → tabulate n f ≡ xs
 tabulate-places n f xs e same =
     ext_get_or 0 (tabulate n f) xs (length-tabulate n f ∙ sym e)
-    (λ i h. let l : i < n = omega (arith, length-tabulate n f) in get_d_tabulate n f i 0 l ∙ same i l)
+    (λ i h. let l : i < n = omega (arith, length-tabulate n f) in get_or-tabulate n f i 0 l ∙ same i l)

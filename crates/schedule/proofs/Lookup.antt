@@ -14,7 +14,7 @@ use Rattle.parity.specs.Shape.{levels, columns}
 use Rattle.parity.specs.Match.{answers, all_answer, match_byte}
 use Rattle.parity.specs.Questions.{Taken}
 use Rattle.parity.specs.declared.Shape.{Shape}
-use Rattle.parity.proofs.ListLaws.{length-tabulate, get_d_tabulate}
+use Rattle.parity.proofs.ListLaws.{length-tabulate, get_or-tabulate}
 use Rattle.parity.proofs.Comparator.{answers-below}
 use Rattle.parity.proofs.Sizes.{two-levels}
 use Rattle.schedule.specs.Schedule.{Entry, unit_vector, test_vector}
@@ -49,10 +49,10 @@ unfolding unit_vector match_byte
 match-unit q pos n j x row lt e =
     let f : ℕ → ℕ = λ i. cond (eqb i j) x 0 in
     let size = length-tabulate n f in
-    let own : get_or (unit_vector n j x) j 0 ≡ x = get_d_tabulate n f j 0 lt ∙ ap (λ t. cond t x 0) (eq-eqb j j refl) in
+    let own : get_or (unit_vector n j x) j 0 ≡ x = get_or-tabulate n f j 0 lt ∙ ap (λ t. cond t x 0) (eq-eqb j j refl) in
     ap (λ t. cond t 1 0)
     (answer-one q pos (unit_vector n j x) row j (size ∙ sym e) (rw size lt)
-    (λ i l ne. get_d_tabulate n f i 0 (rw size at l) ∙ ap (λ t. cond t x 0) (ne_eqb i j ne))
+    (λ i l ne. get_or-tabulate n f i 0 (rw size at l) ∙ ap (λ t. cond t x 0) (ne_eqb i j ne))
     ∙ ap (λ y. answers q y (get_or row j 0)) own)
 
 pub match-entry :

@@ -47,7 +47,7 @@ impl Texts {
     pub fn of_repository() -> Texts {
         let text = |path: &str| read(Path::new(path));
         Texts {
-            calls: read_folder("../crates/jorivelune/src"),
+            calls: read_folder("../crates/jorivelune_c/src"),
             shape: text("../crates/parity/src/lib.rt"),
             header: text("../include/jorivelune.h"),
             head: text("../include/jorivelune_head.h"),

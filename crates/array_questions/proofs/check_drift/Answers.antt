@@ -16,10 +16,8 @@ use Rattle.array_questions.proofs.check_drift.Goals as goal
 pub returns : goal.returns
 returns c =
     let known : (more : List Question) → let s = c.args.shape in first_no (cells_questions s c.args.cells more) ≡ 0 → c.sizes-sizes.result ≡ sizes_of s =
-    (λ more. let shape = c in
-    let args = shape.args in
-    sizes-known args.shape shape.check_shape-asked.result c.sizes-sizes.result (lengths_question (args.cells ∷ []) (cells_wanted args.shape) ∷ more)
-    shape.check_shape-asked.ensures c.sizes-sizes.ensures) in
+    (λ more. sizes-known c.args.shape c.check_shape-asked.result c.sizes-sizes.result
+    (lengths_question (c.args.cells ∷ []) (cells_wanted c.args.shape) ∷ more) c.check_shape-asked.ensures c.sizes-sizes.ensures) in
     let args = c.args in
     let s = args.shape in
     let seven = place_question args.row s.rows in

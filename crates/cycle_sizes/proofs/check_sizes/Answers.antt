@@ -7,9 +7,8 @@ use Rattle.cycle_sizes.proofs.check_sizes.Goals as goal
 -- both asked
 pub returns : goal.returns
 returns c =
-    let shaped = c in
-    let args = shaped.args in
+    let args = c.args in
     let s = args.shape in
     let fifteen = skip_question s args.skip in
-    ask (shape_questions s) s shaped.check_shape.result c.check.result fifteen fifteen refl
-    (shape-asked s shaped.check_shape.result shaped.check_shape.ensures) c.check.ensures (λ p. refl)
+    ask (shape_questions s) s c.check_shape.result c.check.result fifteen fifteen refl
+    (shape-asked s c.check_shape.result c.check_shape.ensures) c.check.ensures (λ p. refl)

@@ -12,7 +12,7 @@ use Rattle.parity.specs.Lists.{tabulate}
 use Rattle.parity.specs.Shape.{checks, columns}
 use Rattle.parity.specs.Questions.{Taken}
 use Rattle.parity.specs.declared.Shape.{Shape}
-use Rattle.parity.proofs.ListLaws.{length-tabulate, get_d_tabulate, tabulate-same}
+use Rattle.parity.proofs.ListLaws.{length-tabulate, get_or-tabulate, tabulate-same}
 use Rattle.parity.proofs.Sums.{check_sum}
 use Rattle.parity.proofs.Taken.{limits}
 use Rattle.parity.proofs.Redundancy.{redundancy_claim}
@@ -51,7 +51,7 @@ module _ {ρ k : ℕ} {columns row₀ : List ℕ} {s power : ℕ} {row sums : Li
       → get_or lent ℓ 0 + missing ρ (get_or sums ℓ 0) * power ≡ cell_at ρ (take k columns) (take k row₀) (suc s) ℓ
   added ℓ h =
       next-digit ρ (take k columns) (take k row₀) s ℓ _ _ power
-      (ap (λ xs. get_or xs ℓ 0) lent-cells ∙ get_d_tabulate (length row₀ - k) (cell_at ρ (take k columns) (take k row₀) s) ℓ 0 h)
+      (ap (λ xs. get_or xs ℓ 0) lent-cells ∙ get_or-tabulate (length row₀ - k) (cell_at ρ (take k columns) (take k row₀) s) ℓ 0 h)
       (sum-at ρ s power (take k columns) (take k row₀) sums t.powered
       (t.summed
       ∙ ap₂ (λ n vs. tabulate 8 (λ ℓ. check_sum (λ v. v / power) ℓ (take n columns) vs)) (length-take-le k row t.fits) t.kept)

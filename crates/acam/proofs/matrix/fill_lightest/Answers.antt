@@ -12,7 +12,7 @@ use borrow.Author.Rules.{part_to_end}
 use borrow.Rule.Slice.PartMut.{put_mid, same_len_mid}
 use Rattle.parity.specs.Lists.{keep, filled_from, tabulate}
 use Rattle.parity.specs.Matrix.{column_order, eligible}
-use Rattle.parity.proofs.ListLaws.{get_d_tabulate}
+use Rattle.parity.proofs.ListLaws.{get_or-tabulate}
 use Rattle.parity.proofs.ColumnOrder.{order_claim}
 use Rattle.acam.specs.Matrices.{rule_weight}
 use Rattle.acam.proofs.Blocks.{start, choice, count, start-end, count_fits, block-kept, block-length}
@@ -24,13 +24,13 @@ counted :
     (τ r w n : ℕ) (below : List ℕ) → w < 8 → below ≡ tabulate 8 (choice r)
     → n ≡ cond (rule_weight τ (w + 1)) (get_or below w 0) 0 → n ≡ count τ r w
 counted τ r w n below h e is =
-    is ∙ ap₂ (λ v n. cond (rule_weight τ v) n 0) (add-one w) (ap (λ l. get_or l w 0) e ∙ get_d_tabulate 8 (choice r) w 0 h)
+    is ∙ ap₂ (λ v n. cond (rule_weight τ v) n 0) (add-one w) (ap (λ l. get_or l w 0) e ∙ get_or-tabulate 8 (choice r) w 0 h)
 
 -- the place of the next weight
 next :
     (w place n : ℕ) (all : List ℕ) → w < 8 → all ≡ tabulate 8 (choice 8) → place ≡ start w → n ≡ get_or all w 0
     → place + n ≡ start (suc w)
-next w place n all h e at is = ap₂ ◌+◌ at (is ∙ ap (λ l. get_or l w 0) e ∙ get_d_tabulate 8 (choice 8) w 0 h)
+next w place n all h e at is = ap₂ ◌+◌ at (is ∙ ap (λ l. get_or l w 0) e ∙ get_or-tabulate 8 (choice 8) w 0 h)
 
 -- a list copied over a part from a place on
 laid :

@@ -11,28 +11,18 @@ use Rattle.acam.proofs.MatrixArray.{zeros, drop-replicate, wide, fits}
 use Rattle.acam.proofs.matrix.matrix_of.Goals as goal
 
 pub overflow_add-columns : goal.overflow_add-columns
-overflow_add-columns c =
-    let few : c.args.shape.width + c.args.checks ≤ 255 =
-    (fits c.args.shape c.requires.taken c.args.checks c.requires.checks) in
-    omega (arith, few)
+overflow_add-columns c = omega (arith, fits c.args.shape c.requires.taken c.args.checks c.requires.checks)
 
 pub slice_bounds-matrix-end : goal.slice_bounds-matrix-end
-slice_bounds-matrix-end c =
-    let few : c.args.shape.width + c.args.checks ≤ 255 =
-    (fits c.args.shape c.requires.taken c.args.checks c.requires.checks) in
-    few
+slice_bounds-matrix-end c = fits c.args.shape c.requires.taken c.args.checks c.requires.checks
 
 pub slice_bounds-fill_matrix-end : goal.slice_bounds-fill_matrix-end
-slice_bounds-fill_matrix-end c =
-    let few : c.args.shape.width + c.args.checks ≤ 255 =
-    (fits c.args.shape c.requires.taken c.args.checks c.requires.checks) in
-    sym (length-take-le _ zeros few)
+slice_bounds-fill_matrix-end c = sym (length-take-le _ zeros (fits c.args.shape c.requires.taken c.args.checks c.requires.checks))
 
 pub fill_matrix-requires : goal.fill_matrix-requires
 fill_matrix-requires c =
-    let few : c.args.shape.width + c.args.checks ≤ 255 =
-    (fits c.args.shape c.requires.taken c.args.checks c.requires.checks) in
     let pre = c.requires in
+    let few = fits c.args.shape pre.taken c.args.checks pre.checks in
     record {
       taken = pre.taken;
       checks = pre.checks;

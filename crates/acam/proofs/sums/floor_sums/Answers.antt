@@ -9,7 +9,7 @@ use lib.ListN.{length, get_or, take, length-take}
 use lib.Seq.{get_or-take}
 use Rattle.parity.specs.Lists.{tabulate}
 use Rattle.parity.specs.Matrix.{bit}
-use Rattle.parity.proofs.ListLaws.{get_d_tabulate, tabulate-same}
+use Rattle.parity.proofs.ListLaws.{get_or-tabulate, tabulate-same}
 use Rattle.parity.proofs.Sums.{check_sum-next, check_sum-high}
 use Rattle.acam.proofs.sums.floor_sums.Invariants.{sum_of, sums_of}
 use Rattle.acam.proofs.sums.floor_sums.Goals as goal
@@ -21,7 +21,7 @@ grown sums column v l = get_or sums l 0 + bit l column * v
 module _ (power : ℕ) (columns cells : List ℕ) (j : ℕ) where
   sums-high : ((i : ℕ) → get_or cells i 0 < 256) → (l : ℕ) → l < 8 → get_or (sums_of power columns cells j) l 0 ≤ 255 * j
   sums-high bytes l h =
-      rw (get_d_tabulate 8 (sum_of power columns cells j) l 0 h)
+      rw (get_or-tabulate 8 (sum_of power columns cells j) l 0 h)
       (omega (
         arith,
         check_sum-high (λ v. v / power) 255 l (take j columns) (take j cells)
@@ -35,7 +35,7 @@ module _ (power : ℕ) (columns cells : List ℕ) (j : ℕ) where
       → tabulate 8 (grown (sums_of power columns cells j) (get_or columns j 0) (get_or cells j 0 / power)) ≡ sums_of power columns cells (j + 1)
   sums_next hc hv =
       tabulate-same 8 (grown (sums_of power columns cells j) (get_or columns j 0) (get_or cells j 0 / power)) (sum_of power columns cells (suc j))
-      (λ l h. ap (λ x. x + bit l (get_or columns j 0) * (get_or cells j 0 / power)) (get_d_tabulate 8 (sum_of power columns cells j) l 0 h)
+      (λ l h. ap (λ x. x + bit l (get_or columns j 0) * (get_or cells j 0 / power)) (get_or-tabulate 8 (sum_of power columns cells j) l 0 h)
       ∙ check_sum-next (λ v. v / power) l j columns cells hc hv)
       ∙ ap (sums_of power columns cells) (sym (add-one j))
 

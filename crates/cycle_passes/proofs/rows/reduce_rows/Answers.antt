@@ -12,7 +12,7 @@ use lib.Seq.{ext_get_or}
 use borrow.Author.Tests.{ltb-true, lt-ltb}
 use Rattle.parity.specs.Lists.{every, greatest}
 use Rattle.parity.proofs.Greatest.{greatest-below}
-use Rattle.parity.proofs.ListLaws.{every-at, length-tabulate, get_d_tabulate}
+use Rattle.parity.proofs.ListLaws.{every-at, length-tabulate, get_or-tabulate}
 use Rattle.cycle_passes.specs.Passes.{reduced_bytes}
 use Rattle.cycle_passes.proofs.Pass.{pass-here, pass-next}
 use Rattle.cycle_passes.proofs.rows.reduce_rows.Goals as goal
@@ -23,13 +23,12 @@ own ρ some counters h =
     let all : every (λ v. ltb v ρ) counters ≡ true = greatest-below ρ some counters ∙ lt-ltb (greatest counters) ρ h in
     let sized : length (reduced_bytes ρ counters) ≡ length counters = length-tabulate (length counters) _ in
     ext_get_or 0 counters _ (sym sized)
-    (λ i l. sym (get_d_tabulate (length counters) _ i 0 l ∙ mod-eq_of_lt (ltb-true _ _ (every-at (λ v. ltb v ρ) counters 0 all i l))))
+    (λ i l. sym (get_or-tabulate (length counters) _ i 0 l ∙ mod-eq_of_lt (ltb-true _ _ (every-at (λ v. ltb v ρ) counters 0 all i l))))
 
 -- all below ρ
 pub returns-then-wide-radix : goal.returns-then-wide-radix
 returns-then-wide-radix c =
-    let start = c in
-    own start.args.radix (omega arith) start.args.counters.now
+    own c.args.radix (omega arith) c.args.counters.now
     (omega (arith, c.if-wide-radix.true, c.wide.ensures, c.largest.ensures))
 
 pub loop-i-preserved : goal.loop-i-preserved

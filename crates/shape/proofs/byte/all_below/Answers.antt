@@ -20,6 +20,5 @@ some (suc bound) (v ∷ vs) h = sym (greatest-below (suc bound) (zero-lt-suc bou
 -- the largest decides
 pub returns : goal.returns
 returns c =
-    let test = c in
-    let args = test.args in
-    ap (λ n. ltb n args.bound) (c.wide.ensures ∙ c.largest.ensures) ∙ some args.bound args.bytes.now test.if-bytes-eq0.false
+    let args = c.args in
+    ap (λ n. ltb n args.bound) (c.wide.ensures ∙ c.largest.ensures) ∙ some args.bound args.bytes.now c.if-bytes-eq0.false

@@ -1,0 +1,25 @@
+// The panel call.
+ghost use Rattle.std.specs.Prelude.{◌≡◌};
+ghost use Rattle.array_memory.specs.Memory.{Memory, with_flagged};
+ghost use Rattle.panel.specs.Panel.{panel_call};
+ghost use Rattle.jorivelune.specs.Numbers.{telling, shown, reading_says};
+
+use jorivelune::summary;
+use parity::Shape;
+
+// Panel: the sum of the totals goes to `total`, the first flagged row to `first`, m where there is none, and the number of
+// flags that were read to `read`; all three are 0 where the call is refused.
+#[unsafe(no_mangle)]
+pub extern "C" fn jorivelune_panel(
+    shape: Shape,
+    flags: &[u8],
+    totals: &[u8],
+    total: &mut usize,
+    first: &mut usize,
+    read: &mut usize,
+) -> u8
+    ensures { (mem : Memory) → reading_says shape.rows (panel_call shape (with_flagged flags.now totals.now mem))
+        ≡ telling result (shown total.new first.new read.new) }
+{
+    summary::jorivelune_panel(shape, flags, totals, total, first, read)
+}
