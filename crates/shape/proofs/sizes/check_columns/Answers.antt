@@ -26,9 +26,10 @@ returns-then-checks-gt-MAX_CHECKS c =
 pub returns-then-rows-lt-MIN_ROWS : goal.returns-then-rows-lt-MIN_ROWS
 returns-then-rows-lt-MIN_ROWS c =
     let s = c.args.shape in
+    let wide = within s c.least_checks-checks.result c.least_checks-checks.ensures (omega arith) (omega arith) (omega arith) in
     simp (
       range-test 1 s.errors s.errors 3 (omega arith) (omega arith),
-      range-test 1 s.width s.width (limit s.errors) (omega arith) (within s c.least_checks-checks.result c.least_checks-checks.ensures (omega arith) (omega arith) (omega arith)),
+      range-test 1 s.width s.width (limit s.errors) (omega arith) wide,
       range-low 1 s.rows s.rows 4096 (omega arith),
     )
 
@@ -36,9 +37,10 @@ returns-then-rows-lt-MIN_ROWS c =
 pub returns-then-rows-gt-MAX_ROWS : goal.returns-then-rows-gt-MAX_ROWS
 returns-then-rows-gt-MAX_ROWS c =
     let s = c.args.shape in
+    let wide = within s c.least_checks-checks.result c.least_checks-checks.ensures (omega arith) (omega arith) (omega arith) in
     simp (
       range-test 1 s.errors s.errors 3 (omega arith) (omega arith),
-      range-test 1 s.width s.width (limit s.errors) (omega arith) (within s c.least_checks-checks.result c.least_checks-checks.ensures (omega arith) (omega arith) (omega arith)),
+      range-test 1 s.width s.width (limit s.errors) (omega arith) wide,
       range-high 1 s.rows s.rows 4096 (omega arith),
     )
 
@@ -63,9 +65,10 @@ unfolding checks columns cell_count
 returns c =
     let s = c.args.shape in
     let r = c.least_checks-checks in
+    let wide = within s c.least_checks-checks.result c.least_checks-checks.ensures (omega arith) (omega arith) (omega arith) in
     simp (
       range-test 1 s.errors s.errors 3 (omega arith) (omega arith),
-      range-test 1 s.width s.width (limit s.errors) (omega arith) (within s c.least_checks-checks.result c.least_checks-checks.ensures (omega arith) (omega arith) (omega arith)),
+      range-test 1 s.width s.width (limit s.errors) (omega arith) wide,
       range-test 1 s.rows s.rows 4096 (omega arith) (omega arith),
     )
     (λ i. accepted (record {
