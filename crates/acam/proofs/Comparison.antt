@@ -1,7 +1,7 @@
--- The comparison of inputs with the first cells of a row: place after place, where what is left of it gives the whole comparison's answer, and stretch
--- after stretch. Assumes nothing.
+-- The comparison of inputs with the first cells of a row, cell after cell and stretch after stretch: the first that says no tells, and else each has
+-- answered. Assumes nothing.
 use mathlib.Core.Path.{◌≡◌, refl, sym, ◌∙◌, ap, ap₂, subst}
-use mathlib.Core.Bool.{Bool, true, false, ◌&&◌, and-eq-true_iff, true≢false, false≢true}
+use mathlib.Core.Bool.{Bool, true, false, ◌&&◌, and-eq-true_iff, not-eq-not, false≢true}
 use mathlib.Core.List.{List, [], ◌∷◌}
 use mathlib.Core.Logic.{⊎_elim}
 use Prim.Native.Nat.{ℕ, zero, suc, ◌+◌, ◌-◌, ◌≤◌, ◌<◌}
@@ -11,32 +11,7 @@ use lib.Dec.{leb}
 use lib.ListN.{length, get_or, take, drop}
 use lib.Seq.{length-take-le, get_or-take, get_or-drop}
 use borrow.Rule.Slice.PartMut.{mid_of, mid_len}
-use Rattle.parity.proofs.Alongside.{alongside_from, alongside-fails, alongside-passes, alongside-ended}
 use Rattle.acam.specs.Cell.{all_reached}
-
--- the comparison from place j on
-abbrev pub compared : List ℕ → List ℕ → ℕ → Bool
-compared inputs row j = alongside_from leb inputs (take (length inputs) row) j
-
-module _ (inputs row : List ℕ) (fits : length inputs ≤ length row) where
-  sized : length inputs ≡ length (take (length inputs) row)
-  sized = sym (length-take-le (length inputs) row fits)
-
-  -- the cell that is compared is the row's
-  cell : (j : ℕ) → j < length inputs → (b : Bool) → leb (get_or inputs j 0) (get_or row j 0) ≡ b
-      → leb (get_or inputs j 0) (get_or (take (length inputs) row) j 0) ≡ b
-  cell j h b e = ap (leb (get_or inputs j 0)) (get_or-take (length inputs) row j 0 h) ∙ e
-
-  pub compare-fails : (j : ℕ) → j < length inputs → leb (get_or inputs j 0) (get_or row j 0) ≡ false → compared inputs row j ≡ false
-  compare-fails j h e = alongside-fails leb inputs (take (length inputs) row) sized j h (cell j h false e)
-
-  pub compare-passes : (j : ℕ) → j < length inputs → leb (get_or inputs j 0) (get_or row j 0) ≡ true → compared inputs row j ≡ compared inputs row (j + 1)
-  compare-passes j h e = alongside-passes leb inputs (take (length inputs) row) sized j h (cell j h true e)
-
-  pub compare-ended : compared inputs row (length inputs) ≡ true
-  compare-ended = alongside-ended leb inputs (take (length inputs) row) sized
-
--- ---- stretches
 
 -- the cell in place i reaches its input
 abbrev ReachedAt : List ℕ → List ℕ → ℕ → Type 0
@@ -59,6 +34,25 @@ all-reached [] (y ∷ ys) same each = absurd (omega arith)
 all-reached (x ∷ xs) [] same each = absurd (omega arith)
 all-reached (x ∷ xs) (y ∷ ys) same each = ap₂ ◌&&◌ (each 0 (omega arith)) (all-reached xs ys (omega arith) (λ i h. each (suc i) (omega arith)))
 
+module _ (inputs row : List ℕ) (fits : length inputs ≤ length row) where
+  sized : length inputs ≡ length (take (length inputs) row)
+  sized = sym (length-take-le (length inputs) row fits)
+
+  -- the cell that is compared is the row's
+  cell : (j : ℕ) → j < length inputs → (b : Bool) → leb (get_or inputs j 0) (get_or row j 0) ≡ b
+      → leb (get_or inputs j 0) (get_or (take (length inputs) row) j 0) ≡ b
+  cell j h b e = ap (leb (get_or inputs j 0)) (get_or-take (length inputs) row j 0 h) ∙ e
+
+  -- a cell that says no
+  pub cell-fails : (j : ℕ) → j < length inputs → leb (get_or inputs j 0) (get_or row j 0) ≡ false → all_reached inputs (take (length inputs) row) ≡ false
+  cell-fails j h e = not-eq-not.0 (λ all. false≢true (sym (cell j h false e) ∙ each-reached inputs (take (length inputs) row) all j h))
+
+  -- all have answered
+  pub compare-all : FirstReached inputs row (length inputs) → all_reached inputs (take (length inputs) row) ≡ true
+  compare-all first = all-reached inputs (take (length inputs) row) sized (λ i h. cell i h true (first i h))
+
+-- ---- stretches
+
 -- a place of a stretch is one of the whole
 in-stretch :
     (inputs row : List ℕ) (start n i : ℕ) → i < n
@@ -75,20 +69,16 @@ module _ (inputs row : List ℕ) (fits : length inputs ≤ length row) (start en
 
   -- where it says no, so does the whole
   pub stretch-fails : stretch ≡ false → all_reached inputs (take (length inputs) row) ≡ false
-  stretch-fails e = go (all_reached inputs (take (length inputs) row)) refl
-    where
-      go : (all : Bool) → all_reached inputs (take (length inputs) row) ≡ all → all ≡ false
-      go false all = refl
-      go true all =
-          let size = end - start in
-          let sized = mid_len start end inputs within in
-          let each : FirstReached (mid_of start size inputs) (mid_of start size row) (length (mid_of start size inputs)) =
-          λ i h. in-stretch inputs row start size i (omega (arith, sized))
-          ∙ sym (cell inputs row fits (start + i) (omega (arith, sized)) _ refl)
-          ∙ each-reached inputs (take (length inputs) row) all (start + i) (omega (arith, sized)) in
-          absurd
-          (true≢false
-          (sym (all-reached (mid_of start size inputs) (mid_of start size row) (sized ∙ sym (mid_len start end row (omega arith))) each) ∙ e))
+  stretch-fails e =
+      not-eq-not.0 (λ all.
+      let size = end - start in
+      let sized = mid_len start end inputs within in
+      let each : FirstReached (mid_of start size inputs) (mid_of start size row) (length (mid_of start size inputs)) =
+      λ i h. in-stretch inputs row start size i (omega (arith, sized))
+      ∙ sym (cell inputs row fits (start + i) (omega (arith, sized)) _ refl)
+      ∙ each-reached inputs (take (length inputs) row) all (start + i) (omega (arith, sized)) in
+      false≢true
+      (sym e ∙ all-reached (mid_of start size inputs) (mid_of start size row) (sized ∙ sym (mid_len start end row (omega arith))) each))
 
   -- where it says yes, and the cells before it have answered, those up to its end have
   pub stretch-passes : stretch ≡ true → FirstReached inputs row start → FirstReached inputs row end
@@ -102,8 +92,14 @@ module _ (inputs row : List ℕ) (fits : length inputs ≤ length row) (start en
           (sym (in-stretch inputs row start size (i - start) (omega arith))
           ∙ each-reached (mid_of start size inputs) (mid_of start size row) e (i - start) (omega (arith, mid_len start end inputs within)))
 
--- all have answered
-pub compare-all :
-    (inputs row : List ℕ) → length inputs ≤ length row → FirstReached inputs row (length inputs) → all_reached inputs (take (length inputs) row) ≡ true
-compare-all inputs row fits first =
-    all-reached inputs (take (length inputs) row) (sized inputs row fits) (λ i h. cell inputs row fits i h true (first i h))
+-- the last stretch says what the whole does, where the cells before it have answered
+pub stretch-ends :
+    (inputs row : List ℕ) → length inputs ≤ length row → (start : ℕ) → FirstReached inputs row start
+    → all_reached (mid_of start (length inputs - start) inputs) (mid_of start (length inputs - start) row)
+    ≡ all_reached inputs (take (length inputs) row)
+stretch-ends inputs row fits start first = go _ refl
+  where
+    go : (b : Bool) → all_reached (mid_of start (length inputs - start) inputs) (mid_of start (length inputs - start) row) ≡ b
+        → b ≡ all_reached inputs (take (length inputs) row)
+    go true e = sym (compare-all inputs row fits (stretch-passes inputs row fits start (length inputs) (omega arith) e first))
+    go false e = sym (stretch-fails inputs row fits start (length inputs) (omega arith) e)

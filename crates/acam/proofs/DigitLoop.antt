@@ -10,6 +10,7 @@ use lib.ListN.{get_or}
 use Rattle.parity.specs.Lists.{tabulate}
 use Rattle.parity.specs.Shape.{digit, levels}
 use Rattle.parity.specs.Questions.{Taken}
+use Rattle.acam.specs.Rows.{ToSum}
 use Rattle.parity.specs.declared.Shape.{Shape}
 use Rattle.parity.proofs.ListLaws.{get_or-tabulate}
 use Rattle.parity.proofs.Sums.{check_sum, check_sum-same}
@@ -39,6 +40,12 @@ module _ (shape : Shape) (t : Taken shape) (s : ℕ) where
         let pos : 0 < power = rw e (one-le-pow s shape.radix (omega arith)) in
         let more : power * 1 ≤ power * shape.radix = mul-le-mul_left power (omega arith) in
         omega (arith, power-up, power-high h)
+
+    -- cells over it can be added up
+    pub sums-ask : s < shape.digits → (cell_count column_count : ℕ) → cell_count ≤ column_count → column_count ≤ 255 → ToSum cell_count column_count power
+    sums-ask h cell_count column_count enough few =
+        let fits = power-fits h in
+        record { divisor = record { low = omega arith; high = omega arith }; columns = enough; few = few }
 
 -- the sum of check row ℓ among those of the eight, mod ρ: a level over ρ^s and its digit s are congruent
 pub sum-at :

@@ -67,11 +67,22 @@ module _ (s : Shape) (t : Taken s) (r : ℕ) (counted : r ≡ checks s) where
     pub front : length (take s.width over) ≡ s.width
     front = length-take-le s.width over long
 
-    pub rules-fill : rule_columns s.errors r (length (take s.width over)) ≡ rule_columns s.errors (checks s) s.width
+    rules-fill : rule_columns s.errors r (length (take s.width over)) ≡ rule_columns s.errors (checks s) s.width
     rules-fill = ap₂ (rule_columns s.errors) counted front
 
     pub rules-ask : RulesFit s.errors r (length (take s.width over))
     rules-ask = record { checks = omega (arith, (redundancy_claim s t).high); enough = ap length rules-fill ∙ rules-sized s t ∙ sym front }
+
+    -- once they are there
+    module _ (rules : List ℕ) (filled : rules ≡ rule_columns s.errors r (length (take s.width over))) where
+      pub are-rules : rules ≡ rule_columns s.errors (checks s) s.width
+      are-rules = filled ∙ rules-fill
+
+      pub rules-long : length rules ≡ s.width
+      rules-long = ap length are-rules ∙ rules-sized s t
+
+      pub rules-held : take s.width (rules ++ drop s.width over) ≡ rules
+      rules-held = take_at rules (drop s.width over) s.width rules-long
 
 -- the part of the array in which the columns are made, and what it and the zeros after it hold then
 module _ (s : Shape) (t : Taken s) (n : ℕ) (all : n ≡ columns s) where
@@ -99,9 +110,6 @@ module _ (s : Shape) (t : Taken s) (n : ℕ) (all : n ≡ columns s) where
           bounds.low,
           bounds.high,
         )
-
-    pub part_length : length (take p (made ++ drop n blank)) ≡ p
-    part_length = length-take-le p (made ++ drop n blank) part-within
 
     pub part-padded : take p (made ++ drop n blank) ≡ matrix s ++ replicate (p - n) 0
     part-padded =

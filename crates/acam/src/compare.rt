@@ -21,12 +21,10 @@ pub fn narrow(inputs: &[u16], levels: usize, bytes: &mut [u8]) -> bool
 {
     let limit = levels as u16;
     let mut below = true;
-    let mut j: usize = 0;
-    while j < inputs.len() {
+    for j in 0..inputs.len() {
         let input = inputs[j];
         bytes[j] = (input % 256) as u8;
         below = below & (input < limit);
-        j += 1;
     }
     below
 }
@@ -37,10 +35,8 @@ fn answer_all(inputs: &[u8], cells: &[u8]) -> bool
     ensures { result ≡ all_reached inputs.now cells.now }
 {
     let mut all = true;
-    let mut j: usize = 0;
-    while j < 16 {
+    for j in 0..16 {
         all = all & answers(inputs[j], cells[j]);
-        j += 1;
     }
     all
 }
@@ -50,18 +46,16 @@ fn match_each(inputs: &[u8], row: &[u8]) -> u8
     requires { length inputs.now ≤ length row.now }
     ensures { result ≡ compared_byte inputs.now (take (length inputs.now) row.now) }
 {
-    let mut j: usize = 0;
-    while j < inputs.len() {
+    for j in 0..inputs.len() {
         if !answers(inputs[j], row[j]) {
             return 0;
         }
-        j += 1;
     }
     1
 }
 
 // 1 where every cell answers 1 to its input, else 0. Cells beyond the inputs are fed 0 and always answer 1. Sixteen cells are
-// compared at a time: the first sixteen, and then those that end with the last, so that a few may be compared twice.
+// compared at a time, from the first on, and at the end the last sixteen, so that a few may be compared twice.
 pub fn match_byte(inputs: &[u8], row: &[u8]) -> u8
     requires { length inputs.now ≤ length row.now }
     ensures { result ≡ compared_byte inputs.now (take (length inputs.now) row.now) }
@@ -69,22 +63,21 @@ pub fn match_byte(inputs: &[u8], row: &[u8]) -> u8
     if inputs.len() < 16 {
         return match_each(inputs, row);
     }
-    let mut start: usize = 0;
-    let mut next: usize = (inputs.len() - 1) % 16 + 1;
-    'stretches: while start < inputs.len() {
+    for i in 0..(inputs.len() - 1) / 16 {
+        let start = i * 16;
         let end = start + 16;
         if !answer_all(&inputs[start..end], &row[start..end]) {
             return 0;
         }
-        start = next;
-        next += 16;
     }
-    1
+    let last = inputs.len() - 16;
+    u8::from(answer_all(&inputs[last..], &row[last..inputs.len()]))
 }
 
 // What a row's match line gives, where its cells say this: a sound line, 0, what they say, a shorted one, 2, always 1, and any
 // other, which is dead, 0. Two choices and a sum, of which one at most is not 0, and no early return, so that a loop over the rows
 // that calls it is compiled to short vector code.
+#[tactic(auto, unfolding(parity::specs::Match::line_gives))]
 pub fn line_gives(line: u8, said: u8) -> u8
     ensures { result ≡ line_gives line said }
 {
@@ -95,6 +88,7 @@ pub fn line_gives(line: u8, said: u8) -> u8
 
 // The byte that a row's match line gives, by inputs that are all below q or not: the cells are looked at only where they can
 // tell, at a sound line with such inputs.
+#[tactic(auto, unfolding(parity::specs::Match::line_gives))]
 pub fn line_match(line: u8, below: bool, inputs: &[u8], row: &[u8]) -> u8
     requires { length inputs.now ≤ length row.now }
     ensures { result ≡ line_byte line below inputs.now (take (length inputs.now) row.now) }

@@ -8,22 +8,20 @@ ghost use Rattle.acam.specs.Rows.{ToComplete, RulesLent, Measured};
 use super::matrix::fill_rules;
 use super::sums::{floor_sums, missing};
 use parity::Shape;
-use shape::byte::{fill, wide};
 
 // One more digit in each check cell: what brings its check row's sum to 0 mod ρ, at ρ^s = power.
 fn add_check_digits(cells: &mut [u8], sums: [u16; 8], radix: usize, power: usize)
     requires { ToComplete cells.old sums radix power }
     ensures { cells.new ≡ tabulate (length cells.old) (completed cells.old sums radix power) }
 {
-    let mut l: usize = 0;
-    while l < cells.len() {
+    for l in 0..cells.len() {
         let digit = missing(sums[l], radix);
-        cells[l] = (wide(cells[l]) + digit * power) as u8;
-        l += 1;
+        cells[l] = (usize::from(cells[l]) + digit * power) as u8;
     }
 }
 
 // The check cells of a row of n cells, digit after digit, by the columns of its k rule cells.
+#[tactic(auto, unfolding(parity::specs::Shape::columns))]
 fn write_digits(shape: Shape, row: &mut [u8], rules: &[u8])
     requires { RulesLent shape (length row.old) rules.now }
     ensures { row.new ≡ encode shape (take shape.width row.old) }
@@ -31,14 +29,12 @@ fn write_digits(shape: Shape, row: &mut [u8], rules: &[u8])
     let radix = shape.radix;
     let digits = shape.digits;
     let width = shape.width;
-    fill(&mut row[width..], 0);
+    row[width..].fill(0);
     let mut power: usize = 1;
-    let mut s: usize = 0;
-    while s < digits {
+    for _ in 0..digits {
         let sums = floor_sums(&row[..width], rules, power);
         add_check_digits(&mut row[width..], sums, radix, power);
         power = power * radix;
-        s += 1;
     }
 }
 

@@ -8,7 +8,7 @@ ghost use Rattle.shape.specs.Bounds.{Within};
 
 use super::order::{choices, column_order};
 use parity::Shape;
-use shape::byte::{copy, fill, power_of_two, wide};
+use shape::byte::{copy, power_of_two};
 
 // How many of a weight's columns can be rule columns, for τ = 2 and 3: all of them or none.
 fn count_rules(errors: usize, weight: usize, columns: u8) -> usize
@@ -18,13 +18,13 @@ fn count_rules(errors: usize, weight: usize, columns: u8) -> usize
         if weight < 2 {
             return 0;
         }
-        return wide(columns);
+        return usize::from(columns);
     }
     if weight < 3 {
         return 0;
     }
     if weight % 2 == 1 {
-        return wide(columns);
+        return usize::from(columns);
     }
     0
 }
@@ -39,8 +39,7 @@ fn fill_lightest(part: &mut [u8], errors: usize, checks: usize)
     let all = choices(8);
     let mut found: usize = 0;
     let mut place: usize = 0;
-    let mut w: usize = 0;
-    while w < 8 {
+    for w in 0..8 {
         let count = count_rules(errors, w + 1, below[w]);
         let to = place + count;
         copy(&order[place..to], &mut part[found..]);
@@ -48,18 +47,18 @@ fn fill_lightest(part: &mut [u8], errors: usize, checks: usize)
             return;
         }
         found += count;
-        place += wide(all[w]);
-        w += 1;
+        place += usize::from(all[w]);
     }
 }
 
 // The rule columns, as many as the part holds: 1 in each for τ = 1, else the lightest eligible ones.
+#[tactic(auto, unfolding(parity::specs::Matrix::rule_columns))]
 pub(crate) fn fill_rules(part: &mut [u8], errors: usize, checks: usize)
     requires { RulesFit errors checks (length part.old) }
     ensures { part.new ≡ rule_columns errors checks (length part.old) }
 {
     if errors == 1 {
-        fill(part, 1);
+        part.fill(1);
         return;
     }
     fill_lightest(part, errors, checks);
@@ -69,14 +68,13 @@ fn fill_checks(part: &mut [u8])
     requires { length part.old ≤ 8 }
     ensures { part.new ≡ check_columns (length part.old) }
 {
-    let mut l: usize = 0;
-    while l < part.len() {
-        part[l] = power_of_two(l) as u8;
-        l += 1;
+    for (l, column) in part.iter_mut().enumerate() {
+        *column = power_of_two(l) as u8;
     }
 }
 
 // The n columns of a shape that is taken with r check columns.
+#[tactic(auto, unfolding(parity::specs::Shape::columns))]
 pub fn fill_matrix(part: &mut [u8], shape: Shape, checks: usize)
     requires { Measured shape checks (length part.old) }
     ensures { part.new ≡ matrix_of shape }
@@ -95,7 +93,8 @@ pub fn padded_length(columns: usize) -> usize
     (columns + 31) / 32 * 32
 }
 
-// The same in an array, and 0 after them.
+// The same in an array, and 0 after them. Of fixed length, since there is no heap: a row's length tells how many columns it has.
+#[tactic(auto, using(crate::proofs::MatrixArray::fits))]
 pub fn matrix_of(shape: Shape, checks: usize) -> [u8; 255]
     requires { TakenWith shape checks }
     ensures { result ≡ matrix_array shape }

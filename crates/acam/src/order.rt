@@ -29,6 +29,7 @@ pub(crate) fn column_order() -> [u8; 255]
 }
 
 // How many of the numbers below 2^checks have 1, 2, .., 8 ones. By cases, since a table would be written anew at each call.
+#[tactic(auto, unfolding(crate::specs::Matrices::choose))]
 pub(crate) fn choices(checks: usize) -> [u8; 8]
     requires { checks ≤ 8 }
     ensures { result ≡ tabulate 8 (λ w. choose checks (suc w)) }
@@ -50,5 +51,5 @@ pub(crate) fn choices(checks: usize) -> [u8; 8]
 pub fn ones(column: u8) -> usize
     ensures { result ≡ weight column }
 {
-    u32::count_ones(column as u32) as usize
+    column.count_ones() as usize
 }

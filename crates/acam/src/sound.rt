@@ -16,12 +16,10 @@ fn all_balanced(sums: [u16; 8], checks: usize, radix: usize) -> bool
     requires within { Within 1 radix 256 }
     ensures { result ≡ every_to checks (λ l. eqb (get_or sums l 0 % radix) 0) }
 {
-    let mut l: usize = 0;
-    while l < checks {
+    for l in 0..checks {
         if missing(sums[l], radix) != 0 {
             return false;
         }
-        l += 1;
     }
     true
 }
@@ -35,19 +33,18 @@ pub fn is_balanced(shape: Shape, checks: usize, row: &[u8], matrix: &[u8; 255]) 
     let radix = shape.radix;
     let digits = shape.digits;
     let mut power: usize = 1;
-    let mut s: usize = 0;
-    while s < digits {
+    for _ in 0..digits {
         let sums = floor_sums(row, matrix, power);
         if !all_balanced(sums, checks, radix) {
             return false;
         }
         power = power * radix;
-        s += 1;
     }
     true
 }
 
 // Whether a row of n bytes, any bytes, is sound.
+#[tactic(auto, unfolding(parity::specs::Codeword::is_codeword))]
 pub fn is_sound(shape: Shape, checks: usize, levels: usize, row: &[u8], matrix: &[u8; 255]) -> bool
     requires to_test { ToTest shape checks (length row.now) matrix.now }
     requires levels_value { levels ≡ levels_of shape }

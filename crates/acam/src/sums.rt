@@ -13,12 +13,10 @@ fn add_value(sums: &mut [u16; 8], column: u8, value: u16)
     requires { RoomFor sums.old value }
     ensures { sums.new ≡ tabulate 8 (λ l. get_or sums.old l 0 + bit l column * value) }
 {
-    let mut rest = column as u16;
-    let mut l: usize = 0;
-    while l < 8 {
-        sums[l] = sums[l] + rest % 2 * value;
-        rest = rest / 2;
-        l += 1;
+    let mut rest = u16::from(column);
+    for sum in sums.iter_mut() {
+        *sum += rest % 2 * value;
+        rest /= 2;
     }
 }
 
@@ -38,11 +36,9 @@ pub(crate) fn floor_sums(cells: &[u8], matrix: &[u8], power: usize) -> [u16; 8]
 {
     let reciprocal = (65536 / power + 1) as u32;
     let mut sums = [0u16; 8];
-    let mut j: usize = 0;
-    while j < cells.len() {
-        let floor = quotient(cells[j] as u32, reciprocal) as u16;
+    for j in 0..cells.len() {
+        let floor = quotient(u32::from(cells[j]), reciprocal) as u16;
         add_value(&mut sums, matrix[j], floor);
-        j += 1;
     }
     sums
 }
@@ -54,6 +50,6 @@ pub(crate) fn missing(sum: u16, radix: usize) -> usize
     ensures { result ≡ missing_of radix sum }
 {
     let reciprocal = 4294967296 / radix + 1;
-    let from = sum as usize;
+    let from = usize::from(sum);
     (from + radix - 1) * reciprocal / 4294967296 * radix - from
 }

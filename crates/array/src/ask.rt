@@ -10,8 +10,8 @@ use super::write::program_row;
 use array_questions::check_ask;
 use parity::Shape;
 use shape::answer::Answer;
-use shape::byte::{count_differences, wide};
-use shape::sizes::{Checked, Sizes};
+use shape::byte::count_differences;
+use shape::sizes::Sizes;
 
 pub fn ask_lent(
     shape: Shape,
@@ -30,17 +30,21 @@ pub fn ask_lent(
     let start = row * columns;
     let end = start + columns;
     program_row(shape, checks, finished, given);
-    wide(count_differences(finished, &cells[start..end]))
+    usize::from(count_differences(finished, &cells[start..end]))
 }
 
 // Writes the finished row of these levels into the buffer, and answers in how many cells it differs from the row as it
 // stands. The array is lent to be read alone.
-pub fn ask(shape: Shape, cells: &[u8], row: usize, given: &[u8], finished: &mut [u8]) -> Answer
+pub fn ask(
+    shape: Shape,
+    cells: &[u8],
+    row: usize,
+    given: &[u8],
+    finished: &mut [u8],
+) -> Answer<usize>
     ensures { (mem : Memory) → ask_call shape (with_cells cells.now mem) row given.now finished.old
         ≡ giving (answer_says result) finished.new (with_cells cells.now mem) }
 {
-    match check_ask(shape, cells.len(), row, given, finished.len()) {
-        Checked::Refused(number) => Answer::Refused(number),
-        Checked::Taken(sizes) => Answer::Is(ask_lent(shape, sizes, cells, row, given, finished)),
-    }
+    let sizes = check_ask(shape, cells.len(), row, given, finished.len())?;
+    Ok(ask_lent(shape, sizes, cells, row, given, finished))
 }

@@ -10,13 +10,12 @@ use acam::matrix::matrix_of;
 use acam::sound::is_sound;
 use array_questions::{check_read, check_sound};
 use parity::Shape;
-use shape::answer::{Outcome, Verdict};
-use shape::byte::copy;
-use shape::sizes::{Checked, Sizes};
+use shape::answer::Answer;
+use shape::sizes::Sizes;
 
-pub fn sound_lent(shape: Shape, sizes: Sizes, cells: &[u8], row: usize) -> Verdict
+pub fn sound_lent(shape: Shape, sizes: Sizes, cells: &[u8], row: usize) -> bool
     requires { Passed (cells_questions shape (length cells.now) (sound_arguments shape row)) shape sizes }
-    ensures { (mem : Memory) → sound_call shape (with_cells cells.now mem) row ≡ verdict_says result }
+    ensures { (mem : Memory) → sound_call shape (with_cells cells.now mem) row ≡ accepted result }
 {
     let levels = sizes.levels;
     let checks = sizes.checks;
@@ -24,20 +23,15 @@ pub fn sound_lent(shape: Shape, sizes: Sizes, cells: &[u8], row: usize) -> Verdi
     let start = row * columns;
     let end = start + columns;
     let matrix = matrix_of(shape, checks);
-    if is_sound(shape, checks, levels, &cells[start..end], &matrix) {
-        return Verdict::Yes;
-    }
-    Verdict::No
+    is_sound(shape, checks, levels, &cells[start..end], &matrix)
 }
 
 // Sound: whether a row of the array is sound.
-pub fn sound(shape: Shape, cells: &[u8], row: usize) -> Verdict
+pub fn sound(shape: Shape, cells: &[u8], row: usize) -> Answer<bool>
     ensures { (mem : Memory) → sound_call shape (with_cells cells.now mem) row ≡ verdict_says result }
 {
-    match check_sound(shape, cells.len(), row) {
-        Checked::Refused(number) => Verdict::Refused(number),
-        Checked::Taken(sizes) => sound_lent(shape, sizes, cells, row),
-    }
+    let sizes = check_sound(shape, cells.len(), row)?;
+    Ok(sound_lent(shape, sizes, cells, row))
 }
 
 pub fn read_lent(shape: Shape, sizes: Sizes, cells: &[u8], row: usize, out: &mut [u8])
@@ -48,18 +42,14 @@ pub fn read_lent(shape: Shape, sizes: Sizes, cells: &[u8], row: usize, out: &mut
     let width = shape.width;
     let start = row * columns;
     let end = start + width;
-    copy(&cells[start..end], out);
+    out.copy_from_slice(&cells[start..end]);
 }
 
 // Read: copies the k rule cells of a row out.
-pub fn read(shape: Shape, cells: &[u8], row: usize, out: &mut [u8]) -> Outcome
+pub fn read(shape: Shape, cells: &[u8], row: usize, out: &mut [u8]) -> Answer<()>
     ensures { (mem : Memory) → read_call shape (with_cells cells.now mem) row out.old ≡ giving (outcome_says result) out.new (with_cells cells.now mem) }
 {
-    match check_read(shape, cells.len(), row, out.len()) {
-        Checked::Refused(number) => Outcome::Refused(number),
-        Checked::Taken(sizes) => {
-            read_lent(shape, sizes, cells, row, out);
-            Outcome::Done
-        }
-    }
+    let sizes = check_read(shape, cells.len(), row, out.len())?;
+    read_lent(shape, sizes, cells, row, out);
+    Ok(())
 }

@@ -8,8 +8,8 @@ ghost use Rattle.array.specs.Calls.{drift_call};
 
 use array_questions::check_drift;
 use parity::Shape;
-use shape::answer::Outcome;
-use shape::sizes::{Checked, Sizes};
+use shape::answer::Answer;
+use shape::sizes::Sizes;
 
 pub fn drift_lent(
     shape: Shape,
@@ -27,14 +27,10 @@ pub fn drift_lent(
     cells[at] = level;
 }
 
-pub fn drift(shape: Shape, cells: &mut [u8], row: usize, column: usize, level: u8) -> Outcome
+pub fn drift(shape: Shape, cells: &mut [u8], row: usize, column: usize, level: u8) -> Answer<()>
     ensures { (mem : Memory) → drift_call shape (with_cells cells.old mem) row column level ≡ giving (outcome_says result) [] (with_cells cells.new mem) }
 {
-    match check_drift(shape, cells.len(), row, column, level) {
-        Checked::Refused(number) => Outcome::Refused(number),
-        Checked::Taken(sizes) => {
-            drift_lent(shape, sizes, cells, row, column, level);
-            Outcome::Done
-        }
-    }
+    let sizes = check_drift(shape, cells.len(), row, column, level)?;
+    drift_lent(shape, sizes, cells, row, column, level);
+    Ok(())
 }

@@ -8,8 +8,8 @@ ghost use Rattle.array.specs.Calls.{line_call};
 
 use array_questions::check_line;
 use parity::Shape;
-use shape::answer::Outcome;
-use shape::sizes::{Checked, Sizes};
+use shape::answer::Answer;
+use shape::sizes::Sizes;
 
 pub fn line_lent(shape: Shape, sizes: Sizes, lines: &mut [u8], row: usize, byte: u8)
     requires { Passed (lines_questions shape (length lines.old) (line_arguments shape row byte)) shape sizes }
@@ -18,14 +18,10 @@ pub fn line_lent(shape: Shape, sizes: Sizes, lines: &mut [u8], row: usize, byte:
     lines[row] = byte;
 }
 
-pub fn set_line(shape: Shape, lines: &mut [u8], row: usize, byte: u8) -> Outcome
+pub fn set_line(shape: Shape, lines: &mut [u8], row: usize, byte: u8) -> Answer<()>
     ensures { (mem : Memory) → line_call shape (with_lines lines.old mem) row byte ≡ giving (outcome_says result) [] (with_lines lines.new mem) }
 {
-    match check_line(shape, lines.len(), row, byte) {
-        Checked::Refused(number) => Outcome::Refused(number),
-        Checked::Taken(sizes) => {
-            line_lent(shape, sizes, lines, row, byte);
-            Outcome::Done
-        }
-    }
+    let sizes = check_line(shape, lines.len(), row, byte)?;
+    line_lent(shape, sizes, lines, row, byte);
+    Ok(())
 }

@@ -7,7 +7,7 @@ use lib.ListN.{length}
 use Rattle.parity.specs.Match.{task_vector}
 use Rattle.parity.specs.Shape.{levels, columns}
 use Rattle.parity.specs.declared.Shape.{Shape}
-use Rattle.shape.specs.Answers.{Said, Found, none, accepted, answering}
+use Rattle.shape.specs.Answers.{Found, none, accepted, answering}
 use Rattle.shape.specs.Shapes.{Passed}
 use Rattle.shape.specs.declared.sizes.Sizes.{Sizes}
 use Rattle.array_memory.specs.Geometry.{row_match}
@@ -31,10 +31,10 @@ module _
 
     -- what it found is what the call says
     pub first_said :
-        (said : Said Found) → said ≡ accepted (first_row s.rows (byte_of below bytes cells lines z.columns))
-        → (mem : Memory) → first_call s (with_array cells lines mem) inputs ≡ said
+        (found : Found) → found ≡ first_row s.rows (byte_of below bytes cells lines z.columns)
+        → (mem : Memory) → first_call s (with_array cells lines mem) inputs ≡ accepted found
     unfolding first_call
-    first_said said found mem =
+    first_said found is mem =
         let first = first_row s.rows (row_match (levels s) (columns s) (task_vector s inputs) cells lines) in
         ap (λ n. answering none n first) p.none
-        ∙ sym (found ∙ ap accepted (first_byte s z inputs below bytes cells lines taken.cells p.sizes taken.inputs narrowed))
+        ∙ sym (ap accepted (is ∙ first_byte s z inputs below bytes cells lines taken.cells p.sizes taken.inputs narrowed))

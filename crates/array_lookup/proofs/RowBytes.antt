@@ -39,12 +39,11 @@ byte_high below inputs cells lines n i =
 
 -- the row as the part of the cells that begins at its start
 pub part-byte :
-    (below : Bool) (inputs cells lines : List ℕ) (n i start size : ℕ) → start ≡ i * n → length inputs ≤ size
-    → line_gives (get_or lines i 0) (cond below (compared_byte inputs (take (length inputs) (take size (drop start cells)))) 0)
+    (below : Bool) (inputs cells lines : List ℕ) (n i size : ℕ) → length inputs ≤ size
+    → line_gives (get_or lines i 0) (cond below (compared_byte inputs (take (length inputs) (take size (drop (i * n) cells)))) 0)
     ≡ byte_of below inputs cells lines n i
-part-byte below inputs cells lines n i start size e h =
-    ap (λ row. line_gives (get_or lines i 0) (cond below (compared_byte inputs row) 0))
-    (take-take (length inputs) size (drop start cells) h ∙ ap (λ x. take (length inputs) (drop x cells)) e)
+part-byte below inputs cells lines n i size h =
+    ap (λ row. line_gives (get_or lines i 0) (cond below (compared_byte inputs row) 0)) (take-take (length inputs) size (drop (i * n) cells) h)
 
 -- ---- a task lookup's match bytes
 
@@ -74,7 +73,7 @@ module _
       let part : length inputs ≡ length (take s.width (row_at n cells i))
       = sized ∙ sym (length-take-le s.width (row_at n cells i) (omega (arith, whole))) in
       ap (λ z. byte_of below bytes cells lines z.columns i) e
-      ∙ sym (part-byte below bytes cells lines n i (i * n) n refl (omega (arith, narrowed.sized)))
+      ∙ sym (part-byte below bytes cells lines n i n (omega (arith, narrowed.sized)))
       ∙ ap (line_gives (get_or lines i 0))
       (ap (λ k. cond below (compared_byte bytes (take k (row_at n cells i))) 0) (narrowed.sized ∙ sized)
       ∙ narrow-match (levels s) inputs below bytes (take s.width (row_at n cells i)) narrowed part

@@ -1,5 +1,5 @@
 -- The search over the rows for the first that matches, by a row's line, by the inputs and by its cells: what is left of the search gives the whole search's
--- answer, and within a row what is left of the comparison gives the whole comparison's. Assumes nothing.
+-- answer, and within a row the first cell that says no tells, and else each has answered. Assumes nothing.
 use mathlib.Core.Path.{◌≡◌, refl, sym, ◌∙◌, ap, ap₂}
 use mathlib.Core.Logic.{◌≢◌}
 use mathlib.Core.Bool.{Bool, true, false, cond}
@@ -10,13 +10,14 @@ use lib.Dec.{eqb, leb}
 use lib.ListN.{length, get_or, take, drop, length-drop}
 use lib.Seq.{get_or-drop}
 use borrow.Author.Tests.{lt-ltb, le-ltb}
+use Rattle.std.proofs.Common.{below_more}
 use Rattle.parity.specs.Lists.{first_from}
 use Rattle.parity.specs.Match.{line_gives}
 use Rattle.parity.proofs.Comparator.{line-sound, line-shorted, line_dead}
-use Rattle.shape.specs.Answers.{row, none, row_or_none, accepted}
+use Rattle.shape.specs.Answers.{row, none, row_or_none}
 use Rattle.shape.proofs.Search.{searched, search-found, search-missed, search-ended}
-use Rattle.acam.specs.Cell.{compared_byte}
-use Rattle.acam.proofs.Comparison.{compared, compare-fails, compare-passes, compare-ended}
+use Rattle.acam.specs.Cell.{all_reached, compared_byte}
+use Rattle.acam.proofs.Comparison.{FirstReached, cell-fails as row-fails, compare-all}
 use Rattle.array_memory.proofs.RowPlaces.{row_fits}
 use Rattle.array_lookup.specs.Lookups.{first_row}
 use Rattle.array_lookup.specs.Rows.{RowsLent, byte_of}
@@ -26,12 +27,12 @@ module _ (below : Bool) (inputs cells lines : List ℕ) (n : ℕ) where
   abbrev pub matches : ℕ → Bool
   matches i = eqb (byte_of below inputs cells lines n i) 1
 
-  -- the comparison of row i from cell j on, and that it gives the whole comparison's answer
-  abbrev cells_from : ℕ → ℕ → Bool
-  cells_from i j = compared inputs (drop (i * n) cells) j
+  -- the comparison of row i, and that its first j cells have answered
+  abbrev compared : ℕ → Bool
+  compared i = all_reached inputs (take (length inputs) (drop (i * n) cells))
 
   pub record CellsLeft (i j : ℕ) : Type 0 where
-    pub same : cells_from i j ≡ cells_from i 0
+    pub first : FirstReached inputs (drop (i * n) cells) j
 
   module _ (i : ℕ) where
     -- what its cells say
@@ -49,7 +50,7 @@ module _ (below : Bool) (inputs cells lines : List ℕ) (n : ℕ) where
     match-said : get_or lines i 0 ≡ 0 → (byte : ℕ) → said ≡ byte → matches i ≡ eqb byte 1
     match-said sound byte e = ap₂ (λ line byte. eqb (line_gives line byte) 1) sound e ∙ ap (λ byte. eqb byte 1) (line-sound byte)
 
-    match_is : get_or lines i 0 ≡ 0 → below ≡ true → (t : Bool) → cells_from i 0 ≡ t → matches i ≡ t
+    match_is : get_or lines i 0 ≡ 0 → below ≡ true → (t : Bool) → compared i ≡ t → matches i ≡ t
     unfolding compared_byte
     match_is sound all t e = match-said sound (cond t 1 0) (ap₂ (λ b t. cond b (cond t 1 0) 0) all e) ∙ one t
       where
@@ -72,18 +73,17 @@ module _ (below : Bool) (inputs cells lines : List ℕ) (n : ℕ) where
         record { same = ap (λ k. first_from matches k 0) whole }
 
     pub cells-begin : (i : ℕ) → CellsLeft i 0
-    cells-begin i = record { same = refl }
+    cells-begin i = record { first = λ j h. absurd (omega arith) }
 
     module _ (i : ℕ) (h : i < m) (left : RowsLeft i) where
       passed : matches i ≡ false → RowsLeft (i + 1)
       passed e = record { same = sym (search-missed matches m i h e) ∙ left.same }
 
-      found : matches i ≡ true → accepted (row i) ≡ accepted (first_row m (byte_of below inputs cells lines n))
-      found e =
-          ap accepted (sym (ap (λ t. cond t (row i) none) (lt-ltb i m h)) ∙ ap (row_or_none m) (sym (search-found matches m i h e) ∙ left.same))
+      found : matches i ≡ true → row i ≡ first_row m (byte_of below inputs cells lines n)
+      found e = sym (ap (λ t. cond t (row i) none) (lt-ltb i m h)) ∙ ap (row_or_none m) (sym (search-found matches m i h e) ∙ left.same)
 
       -- a shorted line
-      pub shorted-found : get_or lines i 0 ≡ 2 → accepted (row i) ≡ accepted (first_row m (byte_of below inputs cells lines n))
+      pub shorted-found : get_or lines i 0 ≡ 2 → row i ≡ first_row m (byte_of below inputs cells lines n)
       shorted-found shorted = found (match-shorted i shorted)
 
       -- a dead one
@@ -106,23 +106,22 @@ module _ (below : Bool) (inputs cells lines : List ℕ) (n : ℕ) where
           at : (t : Bool) → says ≡ t → leb (get_or inputs j 0) (get_or (drop (i * n) cells) j 0) ≡ t
           at t e = ap (leb (get_or inputs j 0)) (get_or-drop (i * n) cells j 0) ∙ sym answer ∙ e
 
-          pub cell-fails : get_or lines i 0 ≡ 0 → below ≡ true → CellsLeft i j → says ≡ false → RowsLeft (i + 1)
-          cell-fails sound all cell e =
-              passed (match_is i sound all false (sym cell.same ∙ compare-fails inputs (drop (i * n) cells) fits j inside (at false e)))
+          pub cell-fails : get_or lines i 0 ≡ 0 → below ≡ true → says ≡ false → RowsLeft (i + 1)
+          cell-fails sound all e =
+              passed (match_is i sound all false (row-fails inputs (drop (i * n) cells) fits j inside (at false e)))
 
           pub cell-passes : CellsLeft i j → says ≡ true → CellsLeft i (j + 1)
-          cell-passes cell e = record { same = sym (compare-passes inputs (drop (i * n) cells) fits j inside (at true e)) ∙ cell.same }
+          cell-passes cell e = record { first = below_more _ _ cell.first (at true e) }
 
         pub cells-found :
             get_or lines i 0 ≡ 0 → below ≡ true → CellsLeft i (length inputs)
-            → accepted (row i) ≡ accepted (first_row m (byte_of below inputs cells lines n))
+            → row i ≡ first_row m (byte_of below inputs cells lines n)
         cells-found sound all cell =
-            found (match_is i sound all true (sym cell.same ∙ compare-ended inputs (drop (i * n) cells) fits))
+            found (match_is i sound all true (compare-all inputs (drop (i * n) cells) fits cell.first))
 
-    pub none-found : RowsLeft m → accepted none ≡ accepted (first_row m (byte_of below inputs cells lines n))
+    pub none-found : RowsLeft m → none ≡ first_row m (byte_of below inputs cells lines n)
     none-found left =
-        ap accepted
-        (sym (ap (λ t. cond t (row m) none) (le-ltb m m (omega arith))) ∙ ap (row_or_none m) (sym (search-ended matches m) ∙ left.same))
+        sym (ap (λ t. cond t (row m) none) (le-ltb m m (omega arith))) ∙ ap (row_or_none m) (sym (search-ended matches m) ∙ left.same)
 
 -- the steps of the search
 pub ruleset search_steps = (shorted-found, dead-passed, high-passed, cell-fails, cell-passes, cells-found)

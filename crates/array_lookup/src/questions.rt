@@ -1,12 +1,14 @@
-// The questions of the lookups, asked in their order: each function gives the shape's sizes, or the number of the first no.
+// The questions of the lookups, asked in their order: each function gives the shape's sizes, or the refusal of the first no.
 ghost use Rattle.std.specs.Prelude.{◌≡◌};
 ghost use Rattle.parity.specs.Questions.{first_no};
 ghost use Rattle.shape.specs.Shapes.{checked_says, sizes_if};
 ghost use Rattle.array_lookup.specs.Lookups.{array_questions, lookup_arguments, first_arguments};
 
 use parity::Shape;
+use shape::answer::{Answer, Refusal};
+use shape::byte::all_at_most;
 use shape::questions::same_lengths;
-use shape::sizes::{Checked, check_shape};
+use shape::sizes::{Sizes, check_shape};
 
 // Task lookup.
 pub fn check_lookup(
@@ -15,28 +17,26 @@ pub fn check_lookup(
     lines: usize,
     inputs: &[u16],
     matches: usize,
-) -> Checked
+) -> Answer<Sizes>
     ensures { checked_says result ≡ sizes_if (first_no (array_questions shape cells lines (lookup_arguments shape inputs.now matches))) shape }
 {
-    let asked = check_shape(shape);
-    let sizes = asked.sizes();
+    let sizes = check_shape(shape)?;
     let rows = shape.rows;
     let lent = [cells, lines, inputs.len(), matches];
     let wanted = [sizes.cells, rows, shape.width, rows];
-    asked
-        .check(6, same_lengths(&lent, &wanted))
-        .check_inputs(inputs)
+    Refusal::Length.unless(same_lengths(&lent, &wanted))?;
+    Refusal::Level.unless(all_at_most(inputs, sizes.levels))?;
+    Ok(sizes)
 }
 
 // First match.
-pub fn check_first(shape: Shape, cells: usize, lines: usize, inputs: &[u16]) -> Checked
+pub fn check_first(shape: Shape, cells: usize, lines: usize, inputs: &[u16]) -> Answer<Sizes>
     ensures { checked_says result ≡ sizes_if (first_no (array_questions shape cells lines (first_arguments shape inputs.now))) shape }
 {
-    let asked = check_shape(shape);
-    let sizes = asked.sizes();
+    let sizes = check_shape(shape)?;
     let lent = [cells, lines, inputs.len()];
     let wanted = [sizes.cells, shape.rows, shape.width];
-    asked
-        .check(6, same_lengths(&lent, &wanted))
-        .check_inputs(inputs)
+    Refusal::Length.unless(same_lengths(&lent, &wanted))?;
+    Refusal::Level.unless(all_at_most(inputs, sizes.levels))?;
+    Ok(sizes)
 }

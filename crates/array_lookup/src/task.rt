@@ -11,8 +11,7 @@ use super::questions::check_lookup;
 use acam::compare::{line_match, narrow};
 use parity::Shape;
 use shape::answer::Answer;
-use shape::byte::wide;
-use shape::sizes::{Checked, Sizes};
+use shape::sizes::Sizes;
 
 // The match byte of every row for the inputs, which are all below q or not, with the other cells fed 0, and the number of matches.
 fn match_rows(
@@ -28,21 +27,17 @@ fn match_rows(
     ensures matched { matches.new ≡ tabulate (length matches.old) (byte_of below inputs.now cells.now lines.now columns) }
 {
     let mut count: usize = 0;
-    let mut start: usize = 0;
-    let mut i: usize = 0;
-    while i < matches.len() {
-        let end = start + columns;
-        let byte = line_match(lines[i], below, inputs, &cells[start..end]);
+    for i in 0..matches.len() {
+        let start = i * columns;
+        let byte = line_match(lines[i], below, inputs, &cells[start..start + columns]);
         matches[i] = byte;
-        count += wide(byte);
-        start = end;
-        i += 1;
+        count += usize::from(byte);
     }
     count
 }
 
-// A task lookup whose questions have been passed: the inputs become bytes in an array of the call's own, and the rows are compared
-// with these. The number of matches.
+// A task lookup whose questions have been passed: the inputs become bytes in an array of the call's own, of fixed length since
+// there is no heap, and the rows are compared with these. The number of matches.
 pub fn lookup_lent(
     shape: Shape,
     sizes: Sizes,
@@ -71,14 +66,10 @@ pub fn lookup(
     lines: &[u8],
     inputs: &[u16],
     matches: &mut [u8],
-) -> Answer
+) -> Answer<usize>
     ensures { (mem : Memory) → lookup_call shape (with_array cells.now lines.now mem) inputs.now matches.old
         ≡ giving (answer_says result) matches.new (with_array cells.now lines.now mem) }
 {
-    match check_lookup(shape, cells.len(), lines.len(), inputs, matches.len()) {
-        Checked::Refused(number) => Answer::Refused(number),
-        Checked::Taken(sizes) => {
-            Answer::Is(lookup_lent(shape, sizes, cells, lines, inputs, matches))
-        }
-    }
+    let sizes = check_lookup(shape, cells.len(), lines.len(), inputs, matches.len())?;
+    Ok(lookup_lent(shape, sizes, cells, lines, inputs, matches))
 }

@@ -6,15 +6,16 @@ use Prim.Native.Nat.{ℕ, ◌≤◌, ◌<◌}
 use native.Mathlib.Nat.{zero-lt-suc}
 use lib.ListN.{length}
 use borrow.Author.Tests.{lt-ltb}
+use Rattle.std.specs.Prelude.{Option, Some, None}
 use Rattle.parity.specs.Matrix.{cycle_steps}
 use Rattle.parity.specs.Questions.{Taken}
 use Rattle.parity.specs.declared.Shape.{Shape}
 use Rattle.schedule.specs.Schedule.{schedule}
 use Rattle.schedule.proofs.Length.{schedule-length}
 use Rattle.cycle_place.specs.Places.{place_of, entry_at, next_at, is_place_of}
-use Rattle.cycle_place.specs.declared.walk.Next.{Next}
-use Rattle.cycle_place.specs.declared.walk.Next.TheVariants as nexts
-use Rattle.cycle_place.proofs.Places.{AtPlace, place_end, is-place, place_is, is_place_of-at}
+use Rattle.cycle_place.specs.declared.Place.{Place}
+use Rattle.cycle_place.specs.Walk.{AtPlace}
+use Rattle.cycle_place.proofs.Places.{place_end, is-place, place_is, is_place_of-at}
 use Rattle.cycle.specs.Record.{no_place, open_at, complete_at, record_at, cycle_at, is_open, is_next}
 use Rattle.cycle.specs.declared.Cycle.{Cycle}
 use Rattle.cycle.specs.declared.Phase.{Phase}
@@ -36,9 +37,9 @@ module _ (z : ℕ) (s : Shape) where
   unfolding cycle_at
   record-told c = go (next_at z s c)
     where
-      go : (next : Next) → ((record_at z next c).count ≡ c) × ((record_at z next c).skip ≡ z)
-      go (nexts.Place place) = (refl, refl)
-      go nexts.End = (refl, refl)
+      go : (next : Option Place) → ((record_at z next c).count ≡ c) × ((record_at z next c).skip ≡ z)
+      go (Some place) = (refl, refl)
+      go None = (refl, refl)
 
   pub record-count : (c : ℕ) → (cycle_at z s c).count ≡ c
   record-count c = (record-told c).0

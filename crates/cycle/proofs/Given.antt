@@ -5,6 +5,8 @@ use mathlib.Core.List.{List}
 use Prim.Native.Nat.{ℕ, ◌<◌}
 use Rattle.parity.specs.Questions.{Question, first_no}
 use Rattle.shape.specs.Answers.{Result, accepted, giving, calling}
+use Rattle.shape.specs.Refusals.{number_of}
+use Rattle.shape.specs.declared.answer.Refusal.{Refusal}
 use Rattle.shape.proofs.Calling.{call-refused, call-done}
 use Rattle.array_memory.specs.Memory.{Memory}
 use Rattle.cycle.specs.Calls.{State, state_of}
@@ -14,10 +16,10 @@ use Rattle.cycle.specs.declared.Changed.{Changed}
 
 module _ (questions : List Question) (bytes : List ℕ) (mem : Memory) (cycle : Cycle) (r : Changed) where
   pub gives-refusal :
-      (done : Result State) (n : ℕ) → (first_no questions ≡ n) × (0 < n) → r ≡ refused_with cycle n
-      → calling questions bytes (state_of mem cycle) done ≡ changing r bytes mem
-  gives-refusal done n fails e =
-      call-refused questions bytes (state_of mem cycle) done n fails ∙ ap (λ r. changing r bytes mem) (sym e)
+      (done : Result State) (refusal : Refusal) → (first_no questions ≡ number_of refusal) × (0 < number_of refusal)
+      → r ≡ refused_with cycle refusal → calling questions bytes (state_of mem cycle) done ≡ changing r bytes mem
+  gives-refusal done refusal fails e =
+      call-refused questions bytes (state_of mem cycle) done (number_of refusal) fails ∙ ap (λ r. changing r bytes mem) (sym e)
 
   -- the bytes, the memory and the record that are left are those that the call makes
   pub gives-done :

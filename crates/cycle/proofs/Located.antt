@@ -5,6 +5,7 @@ use mathlib.Core.List.{[], ◌∷◌}
 use Prim.Native.Nat.{ℕ, zero, suc, ◌≤◌, ◌<◌}
 use native.Mathlib.Omega.{arith}
 use lib.Dec.{lit<}
+use Rattle.std.specs.Prelude.{Option}
 use Rattle.parity.specs.Questions.{first_no, Taken, lengths_question}
 use Rattle.parity.specs.declared.Shape.{Shape}
 use Rattle.parity.proofs.Taken.{first-yes}
@@ -19,7 +20,6 @@ use Rattle.cycle_place.specs.Places.{entry_at, next_at}
 use Rattle.cycle_place.specs.Walk.{here_at, told_at}
 use Rattle.cycle_place.specs.declared.Place.{Place}
 use Rattle.cycle_place.specs.declared.walk.Here.{Here}
-use Rattle.cycle_place.specs.declared.walk.Next.{Next}
 use Rattle.cycle_place.specs.declared.walk.Located.TheVariants.{Opening, Test, Elsewhere}
 use Rattle.cycle.specs.Moves.{Movable}
 use Rattle.cycle_lookup.specs.Rows.{opening_of}
@@ -29,24 +29,24 @@ use Rattle.cycle.proofs.CycleRecord.{next-record, next-phase}
 
 module _ (z : ℕ) (s : Shape) (place : Place) where
   pub told-opening :
-      (b : Bool) (c byte : ℕ) (next : Next) → cond b (told_at z s c place) Elsewhere ≡ Opening byte next
+      (b : Bool) (c byte : ℕ) (next : Option Place) → Opening byte next ≡ cond b (told_at z s c place) Elsewhere
       → (b ≡ true) × (c < 2) × (byte ≤ 1) × (entry_at z s c ≡ opening_of s byte) × (next ≡ next_at z s (suc c))
   unfolding entry_at schedule
   told-opening true zero byte next e = let own : 1 ≡ byte = cc in (refl, omega arith, omega arith, ap (opening_of s) own, cc)
   told-opening true (suc zero) byte next e = let own : 0 ≡ byte = cc in (refl, omega arith, omega arith, ap (opening_of s) own, cc)
-  told-opening true (suc (suc c)) byte next e = let never : ◌≡◌ {A = ℕ} 0 1 = cc in absurd (omega arith)
-  told-opening false c byte next e = let never : ◌≡◌ {A = ℕ} 0 1 = cc in absurd (omega arith)
+  told-opening true (suc (suc c)) byte next e = cc
+  told-opening false c byte next e = cc
 
-  pub told-test : (b : Bool) (c : ℕ) (here : Here) → cond b (told_at z s c place) Elsewhere ≡ Test here → (b ≡ true) × (1 < c) × (here ≡ here_at z s c place)
-  told-test true zero here e = let never : ◌≡◌ {A = ℕ} 0 1 = cc in absurd (omega arith)
-  told-test true (suc zero) here e = let never : ◌≡◌ {A = ℕ} 0 1 = cc in absurd (omega arith)
+  pub told-test : (b : Bool) (c : ℕ) (here : Here) → Test here ≡ cond b (told_at z s c place) Elsewhere → (b ≡ true) × (1 < c) × (here ≡ here_at z s c place)
+  told-test true zero here e = cc
+  told-test true (suc zero) here e = cc
   told-test true (suc (suc c)) here e = (refl, omega arith, cc)
-  told-test false c here e = let never : ◌≡◌ {A = ℕ} 0 1 = cc in absurd (omega arith)
+  told-test false c here e = cc
 
-  pub told_none : (b : Bool) (c : ℕ) → cond b (told_at z s c place) Elsewhere ≡ Elsewhere → b ≡ false
-  told_none true zero e = let never : ◌≡◌ {A = ℕ} 0 1 = cc in absurd (omega arith)
-  told_none true (suc zero) e = let never : ◌≡◌ {A = ℕ} 0 1 = cc in absurd (omega arith)
-  told_none true (suc (suc c)) e = let never : ◌≡◌ {A = ℕ} 0 1 = cc in absurd (omega arith)
+  pub told_none : (b : Bool) (c : ℕ) → Elsewhere ≡ cond b (told_at z s c place) Elsewhere → b ≡ false
+  told_none true zero e = cc
+  told_none true (suc zero) e = cc
+  told_none true (suc (suc c)) e = cc
   told_none false c e = refl
 
 -- a record that question 9 takes can be moved on

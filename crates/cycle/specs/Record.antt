@@ -1,12 +1,10 @@
 -- The cycle record as a function of the digits that its cycle skips, of the shape, and of the accepted steps since the start.
-use Rattle.std.specs.Prelude.{Bool, true, false, ◌&&◌, ℕ}
+use Rattle.std.specs.Prelude.{Bool, true, false, ◌&&◌, ℕ, Option, Some, None}
 use Rattle.parity.specs.Questions.{Question}
 use Rattle.parity.specs.declared.Shape.{Shape}
 use Rattle.schedule.specs.Schedule.{Entry}
 use Rattle.cycle_place.specs.Places.{place_at, entry_at, next_at, is_place_of}
 use Rattle.cycle_place.specs.declared.Place.{Place}
-use Rattle.cycle_place.specs.declared.walk.Next.{Next}
-use Rattle.cycle_place.specs.declared.walk.Next.TheVariants as nexts
 use Rattle.cycle.specs.declared.Cycle.{Cycle}
 use Rattle.cycle.specs.declared.Phase.{Phase}
 use Rattle.cycle.specs.declared.Phase.TheVariants.{Idle, Open, Complete}
@@ -28,9 +26,9 @@ abbrev pub complete_at : ℕ → ℕ → Cycle
 complete_at z c = record { phase = Complete; place = no_place; count = c; skip = z }
 
 -- open while a vector is still to come, and complete after the last
-abbrev pub record_at : ℕ → Next → ℕ → Cycle
-record_at z (nexts.Place place) c = open_at z place c
-record_at z nexts.End c = complete_at z c
+abbrev pub record_at : ℕ → Option Place → ℕ → Cycle
+record_at z (Some place) c = open_at z place c
+record_at z None c = complete_at z c
 
 -- the record that a start with z and c accepted steps leave
 unfoldable pub cycle_at : ℕ → Shape → ℕ → Cycle

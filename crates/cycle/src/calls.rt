@@ -17,23 +17,22 @@ ghost use Rattle.cycle.specs.Record.{idle};
 use super::{Changed, Cycle};
 use acam::matrix::{fill_matrix, padded_length};
 use array::write::{put_row, write_row};
-use array_questions::memory::{check_clear, check_lent, check_start};
+use array_questions::memory::{check_clear, check_start, check_step};
 use array_questions::{check_commit, check_program};
 use cycle_lookup::column::make_test;
 use cycle_lookup::opening::make_opening;
 use cycle_passes::rows::reset_rows;
 use cycle_place::walk::Located;
 use parity::Shape;
-use shape::answer::Outcome;
-use shape::byte::fill;
-use shape::sizes::{Checked, Sizes, check_shape};
+use shape::answer::Refusal;
+use shape::sizes::Sizes;
 
 // A refusal: the record as it was given.
-pub fn refused(cycle: Cycle, number: u8) -> Changed
-    ensures { result ≡ refused_with cycle number }
+pub fn refused(cycle: Cycle, refusal: Refusal) -> Changed
+    ensures { result ≡ refused_with cycle refusal }
 {
     Changed {
-        outcome: Outcome::Refused(number),
+        outcome: Err(refusal),
         cycle,
     }
 }
@@ -42,7 +41,7 @@ pub fn done(cycle: Cycle) -> Changed
     ensures { result ≡ done_with cycle }
 {
     Changed {
-        outcome: Outcome::Done,
+        outcome: Ok(()),
         cycle,
     }
 }
@@ -61,8 +60,8 @@ pub fn clear_lent(
     ensures { (mem : Memory) (cycle : CycleRecord) → clear_call shape (state_of (with_all cells.old lines.old counters.old flags.old totals.old mem) cycle)
         ≡ giving (accepted 0) [] (state_of (with_all cells.new lines.new counters.new flags.new totals.new mem) idle) }
 {
-    fill(cells, 0);
-    fill(lines, 0);
+    cells.fill(0);
+    lines.fill(0);
     reset_rows(counters, flags, totals);
 }
 
@@ -105,8 +104,8 @@ impl Cycle {
             flags.len(),
             totals.len(),
         ) {
-            Checked::Refused(number) => refused(self, number),
-            Checked::Taken(sizes) => {
+            Err(refusal) => refused(self, refusal),
+            Ok(sizes) => {
                 clear_lent(shape, sizes, cells, lines, counters, flags, totals);
                 done(Cycle::IDLE)
             }
@@ -119,8 +118,8 @@ impl Cycle {
             ≡ changing result [] (with_cells cells.new mem) }
     {
         match check_program(shape, cells.len(), row, given) {
-            Checked::Refused(number) => refused(self, number),
-            Checked::Taken(sizes) => {
+            Err(refusal) => refused(self, refusal),
+            Ok(sizes) => {
                 write_row(shape, sizes, cells, row, given);
                 done(Cycle::IDLE)
             }
@@ -133,8 +132,8 @@ impl Cycle {
             ≡ changing result [] (with_cells cells.new mem) }
     {
         match check_commit(shape, cells.len(), row, finished) {
-            Checked::Refused(number) => refused(self, number),
-            Checked::Taken(sizes) => {
+            Err(refusal) => refused(self, refusal),
+            Ok(sizes) => {
                 put_row(shape, sizes, cells, row, finished);
                 done(Cycle::IDLE)
             }
@@ -155,10 +154,8 @@ impl Cycle {
             ≡ changing result [] (with_rows counters.new flags.new totals.new mem) }
     {
         match check_start(shape, skip, counters.len(), flags.len(), totals.len()) {
-            Checked::Refused(number) => refused(self, number),
-            Checked::Taken(sizes) => {
-                done(start_lent(shape, sizes, skip, counters, flags, totals))
-            }
+            Err(refusal) => refused(self, refusal),
+            Ok(sizes) => done(start_lent(shape, sizes, skip, counters, flags, totals)),
         }
     }
 
@@ -177,8 +174,7 @@ impl Cycle {
         ensures { (mem : Memory) → step_call shape (state_of (with_all cells.now lines.now counters.old flags.old totals.old mem) self) matches.old
             ≡ changing result matches.new (with_all cells.now lines.now counters.new flags.new totals.new mem) }
     {
-        match check_lent(
-            check_shape(shape),
+        match check_step(
             shape,
             cells.len(),
             lines.len(),
@@ -187,10 +183,10 @@ impl Cycle {
             totals.len(),
             matches.len(),
         ) {
-            Checked::Refused(number) => refused(self, number),
-            Checked::Taken(sizes) => {
-                self.step_lent(shape, sizes, cells, lines, counters, flags, totals, matches)
-            }
+            Err(refusal) => refused(self, refusal),
+            Ok(sizes) => self.step_lent(
+                shape, sizes, cells, lines, counters, flags, totals, matches,
+            ),
         }
     }
 
@@ -251,7 +247,7 @@ impl Cycle {
             ≡ changing result matches.new (with_all cells.now lines.now counters.new flags.new totals.new mem) }
     {
         match self.locate(shape, checks, columns, padded) {
-            Located::Elsewhere => refused(self, 9),
+            Located::Elsewhere => refused(self, Refusal::Record),
             Located::Opening(byte, next) => {
                 make_opening(byte, lines, flags, totals, matches);
                 done(self.moved(next))

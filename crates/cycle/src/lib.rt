@@ -10,17 +10,18 @@ ghost use Rattle.cycle_place.specs.declared.walk.Located.TheVariants.{Elsewhere}
 ghost use Rattle.cycle.specs.Moves.{Movable};
 ghost use Rattle.cycle.specs.Record.{no_place, open_at, complete_at, record_at, is_open, is_next};
 
-use cycle_place::walk::{Located, Next};
+use cycle_place::walk::Located;
 use cycle_place::{Place, walk};
 use parity::Shape;
-use shape::answer::Outcome;
+use shape::answer::Answer;
 use shape::sizes::Sizes;
 
-#[derive(Clone, Copy)]
+// The numbers are the words that the phases are stored as.
+#[derive(Clone, Copy, PartialEq, Eq)]
 pub enum Phase {
-    Idle,
-    Open,
-    Complete,
+    Idle = 0,
+    Open = 1,
+    Complete = 2,
 }
 
 // A cycle's phase, the place of its next lookup in the schedule, the accepted steps since its start, and the number of
@@ -28,16 +29,17 @@ pub enum Phase {
 #[derive(Clone, Copy)]
 pub struct Cycle {
     pub phase: Phase,
-    // all 0 where an opening is next, and where no lookup is to come
+    // that of no test where an opening is next, and where no lookup is to come
     pub place: Place,
     pub count: usize,
     pub skip: usize,
 }
 
-// What a call that has the record gives back beside the bytes that it writes.
+// What a call that has the record gives back beside the bytes that it writes. It is no `Answer<Cycle>`: a refusal too hands the
+// record back, which document 01 wants.
 #[derive(Clone, Copy)]
 pub struct Changed {
-    pub outcome: Outcome,
+    pub outcome: Answer<()>,
     pub cycle: Cycle,
 }
 
@@ -45,17 +47,13 @@ impl Cycle {
     // The record of a fresh array.
     pub const IDLE: Cycle = Cycle {
         phase: Phase::Idle,
-        place: Place {
-            check: 0,
-            digit: 0,
-            column: 0,
-            factor: 0,
-        },
+        place: Place::NO_TEST,
         count: 0,
         skip: 0,
     };
 
-    // The limits of questions 1 to 5: ρ is from here ..
+    // The limits of questions 1 to 5, those of `Sizes` once more, since document 01 wants them as constants of the record's kind: ρ is
+    // from here ..
     pub const MIN_RADIX: usize = Sizes::MIN_RADIX;
 
     // .. to here;
@@ -94,12 +92,7 @@ impl Cycle {
     {
         Self {
             phase: Phase::Open,
-            place: Place {
-                check: 0,
-                digit: 0,
-                column: 0,
-                factor: 0,
-            },
+            place: Place::NO_TEST,
             count: 0,
             skip,
         }
@@ -111,12 +104,7 @@ impl Cycle {
     {
         Self {
             phase: Phase::Complete,
-            place: Place {
-                check: 0,
-                digit: 0,
-                column: 0,
-                factor: 0,
-            },
+            place: Place::NO_TEST,
             count,
             skip,
         }
@@ -125,12 +113,7 @@ impl Cycle {
     pub fn is_open(self) -> bool
         ensures { result ≡ is_open self.phase }
     {
-        let phase = self.phase;
-        match phase {
-            Phase::Idle => false,
-            Phase::Open => true,
-            Phase::Complete => false,
-        }
+        self.phase == Phase::Open
     }
 
     // Whether some cycle has this many accepted steps.
@@ -157,18 +140,18 @@ impl Cycle {
         walk::locate(place, skip, count, shape, checks, columns, padded)
     }
 
-    // The open record after a lookup, by the place of the next one.
-    pub fn moved(mut self, next: Next) -> Self
+    // The record after a lookup, by the place of the next one: open there, or complete where there is none.
+    pub fn moved(mut self, next: Option<Place>) -> Self
         requires { Movable self }
         ensures { result ≡ record_at self.skip next (suc self.count) }
     {
         self.count = self.count + 1;
         match next {
-            Next::Place(place) => {
+            Some(place) => {
                 self.place = place;
                 self
             }
-            Next::End => Cycle::complete(self.skip, self.count),
+            None => Cycle::complete(self.skip, self.count),
         }
     }
 }

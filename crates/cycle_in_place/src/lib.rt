@@ -8,7 +8,7 @@ ghost use Rattle.cycle.specs.Calls.{state_of, step_call};
 
 use cycle::Cycle;
 use parity::Shape;
-use shape::answer::Outcome;
+use shape::answer::Answer;
 
 // A step by the record that the controller keeps. The step takes it by value, and what it hands back is stored: of
 // a refused step, the record as it was.
@@ -21,7 +21,7 @@ pub fn step_in_place(
     flags: &mut [u8],
     totals: &mut [u8],
     matches: &mut [u8],
-) -> Outcome
+) -> Answer<()>
     ensures { (mem : Memory) → step_call shape (state_of (with_all cells.now lines.now counters.old flags.old totals.old mem) cycle.old) matches.old
         ≡ giving (outcome_says result) matches.new (state_of (with_all cells.now lines.now counters.new flags.new totals.new mem) cycle.new) }
 {

@@ -14,7 +14,6 @@ use cycle_passes::totals::total_blocks;
 use cycle_place::Place;
 use cycle_place::factors::scale;
 use parity::Shape;
-use shape::byte::fill;
 
 // What is done once a test is counted: where it ends a digit, the rows whose counters are not 0 are flagged and the blocks'
 // totals counted anew; after the last digit of a check row, the lowest that is not skipped, the counters return to 0.
@@ -32,7 +31,7 @@ fn end_test(ends: bool, lowest: bool, counters: &mut [u8], flags: &mut [u8], tot
     if !lowest {
         return;
     }
-    fill(counters, 0);
+    counters.fill(0);
 }
 
 // A test: the match bytes, the counters, and what is done where it ends a digit.

@@ -1,2 +1,3 @@
--- The law that the proofs of the functions cite.
+-- The laws that the proofs of the functions cite.
+pub mod Counting
 pub mod Pass

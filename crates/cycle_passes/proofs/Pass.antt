@@ -1,26 +1,21 @@
 -- A pass over a buffer that writes each place once, from the front or from the back: the invariant of its loop. Assumes nothing.
 use mathlib.Core.Path.{◌≡◌, refl, sym, ap, ap₂, ◌∙◌}
-use mathlib.Core.Bool.{Bool, true, false}
 use mathlib.Core.List.{List}
 use Prim.Native.Nat.{ℕ, suc, ◌+◌, ◌≤◌, ◌<◌}
 use native.Mathlib.Omega.{arith}
-use lib.Arith.{lt_of_le-ne}
-use lib.Dec.{eqb}
 use lib.ListN.{length, get_or, set, length-set}
-use lib.Seq.{ext_get_or, get_or-set_same, get_or-set_other}
-use borrow.Author.Tests.{eqb-true, eqb-false}
+use lib.Seq.{ext_get_or}
+use Rattle.std.proofs.lemmas.Grind.{common_steps}
 use Rattle.parity.specs.Lists.{tabulate}
 use Rattle.parity.proofs.ListLaws.{length-tabulate, get_or-tabulate}
 use Rattle.parity.proofs.Filled.{filled, filled-here, filled_next, filled-all}
 
 -- the first i places of the buffer are f's, the rest is as it was
 pub record Pass (f : ℕ → ℕ) (old : List ℕ) (i : ℕ) (buffer : List ℕ) : Type 0 where
-  pub within : i ≤ length old
-  pub sized : length buffer ≡ length old
   pub made : buffer ≡ filled f old i
 
 pub pass-start : (f : ℕ → ℕ) (old : List ℕ) → Pass f old 0 old
-pass-start f old = record { within = omega arith; sized = refl; made = refl }
+pass-start f old = record { made = refl }
 
 module _ {f : ℕ → ℕ} {old : List ℕ} {i : ℕ} {buffer : List ℕ} (p : Pass f old i buffer) where
   -- the place to be written next is as it was
@@ -28,15 +23,16 @@ module _ {f : ℕ → ℕ} {old : List ℕ} {i : ℕ} {buffer : List ℕ} (p : P
   pass-here = ap (λ l. get_or l i 0) p.made ∙ filled-here f old i 0
 
   pub pass-next : {next : List ℕ} {v : ℕ} → next ≡ set buffer i v → v ≡ f i → i < length old → Pass f old (i + 1) next
-  pass-next {next} {v} stored e h =
-      record {
-        within = omega arith;
-        sized = ap length stored ∙ length-set buffer i v ∙ p.sized;
-        made = stored ∙ ap₂ (λ l x. set l i x) p.made e ∙ filled_next f old i h;
-      }
+  pass-next {next} {v} stored e h = record { made = stored ∙ ap₂ (λ l x. set l i x) p.made e ∙ filled_next f old i h }
 
-  pub pass-end : length old ≤ i → buffer ≡ tabulate (length old) f
-  pass-end h = p.made ∙ filled-all f old i (omega arith)
+  pub pass-end : i ≡ length old → buffer ≡ tabulate (length old) f
+  pass-end h = p.made ∙ filled-all f old i h
+
+-- a buffer that has f's value at each place
+pub tabulated : {f : ℕ → ℕ} {n : ℕ} {buffer : List ℕ} → length buffer ≡ n → ((i : ℕ) → i < n → get_or buffer i 0 ≡ f i) → buffer ≡ tabulate n f
+tabulated {f} {n} {buffer} sized made =
+    ext_get_or 0 buffer (tabulate n f) (sized ∙ sym (length-tabulate n f))
+    (λ i h. made i (omega arith) ∙ sym (get_or-tabulate n f i 0 (omega arith)))
 
 -- ---- from the back
 
@@ -55,19 +51,8 @@ module _ {f : ℕ → ℕ} {old : List ℕ} {i : ℕ} {buffer : List ℕ} (p : P
       record {
         within = omega (arith, p.within);
         sized = ap length stored ∙ length-set buffer k v ∙ p.sized;
-        made = λ j low high. ap (λ l. get_or l j 0) stored ∙ go j low high (eqb j k) refl;
+        made = λ j low high. let rest = p.made j in grind (arith, common_steps);
       }
-    where
-      go : (j : ℕ) → k ≤ j → j < length old → (b : Bool) → eqb j k ≡ b → get_or (set buffer k v) j 0 ≡ f j
-      go j low high true q =
-          let same = eqb-true j k q in
-          ap (λ j. get_or (set buffer k v) j 0) same ∙ get_or-set_same buffer k v 0 (omega (arith, p.sized)) ∙ e ∙ ap f (sym same)
-      go j low high false q =
-          let other = eqb-false j k q in
-          get_or-set_other buffer k j v 0 other ∙ p.made j (omega (arith, lt_of_le-ne low (λ s. other (sym s)))) high
 
-  pub back_end : i ≡ 0 → buffer ≡ tabulate (length old) f
-  back_end none =
-      let all : length (tabulate (length old) f) ≡ length old = length-tabulate (length old) f in
-      ext_get_or 0 buffer _ (p.sized ∙ sym all)
-      (λ j h. p.made j (omega arith) (omega (arith, p.sized)) ∙ sym (get_or-tabulate (length old) f j 0 (omega (arith, p.sized))))
+  pub back_end : i ≤ 0 → buffer ≡ tabulate (length old) f
+  back_end none = tabulated p.sized (λ j h. p.made j (omega arith) h)

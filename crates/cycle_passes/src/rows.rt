@@ -5,31 +5,28 @@ ghost use Rattle.cycle_passes.specs.Passes.{column_cells, reduced_bytes, column_
 ghost use Rattle.cycle_passes.specs.Passes.{ColumnLent, ToCount};
 
 use acam::compare::{cell_match, line_gives};
-use shape::byte::{fill, largest, wide};
+use shape::byte::all_below;
 
-// The cells of one column, row after row, from the first.
+// The cells of one column, row after row, from the first. The place of a row's cell runs along with the rows: with a product for
+// each row this loop took a tenth more at 64 rows, and the next one at 4,096.
 pub fn take_down(cells: &[u8], columns: usize, column: usize, bytes: &mut [u8])
     requires { ColumnLent (length cells.now) columns column (length bytes.old) }
     ensures { bytes.new ≡ column_cells columns column cells.now (length bytes.old) }
 {
     let mut at = column;
-    let mut i: usize = 0;
-    while i < bytes.len() {
-        bytes[i] = cells[at];
+    for byte in bytes.iter_mut() {
+        *byte = cells[at];
         at += columns;
-        i += 1;
     }
 }
 
-// The same, from the last row.
+// The same, from the last row. Two loops, since one over an order of the rows that is given would be no plainer.
 fn take_up(cells: &[u8], columns: usize, column: usize, bytes: &mut [u8])
     requires { ColumnLent (length cells.now) columns column (length bytes.old) }
     ensures { bytes.new ≡ column_cells columns column cells.now (length bytes.old) }
 {
-    let mut i = bytes.len();
-    let mut at = i * columns + column;
-    while 0 < i {
-        i -= 1;
+    let mut at = bytes.len() * columns + column;
+    for i in (0..bytes.len()).rev() {
         at -= columns;
         bytes[i] = cells[at];
     }
@@ -65,13 +62,12 @@ pub fn reduce_rows(counters: &mut [u8], radix: usize)
     requires { Within 1 radix 255 }
     ensures { counters.new ≡ reduced_bytes radix counters.old }
 {
-    if wide(largest(counters)) < radix {
+    if all_below(counters, radix) {
         return;
     }
-    let mut i: usize = 0;
-    while i < counters.len() {
-        counters[i] = (wide(counters[i]) % radix) as u8;
-        i += 1;
+    let radix = radix as u8;
+    for counter in counters.iter_mut() {
+        *counter %= radix;
     }
 }
 
@@ -86,18 +82,17 @@ fn add_match(counter: u8, byte: u8, radix: u8) -> u8
 }
 
 // The match byte of each row, in the place of its cell in the one column that is fed, and added to the row's counter. In this
-// loop and the next each byte is chosen before its one store, so that they are compiled to vector code.
+// loop and the next each byte is chosen before its one store, so that they are compiled to vector code. What `count_column` and
+// `match_column` do, one after the other, is done here in one loop: the two took half as long again.
 pub fn count_matches(counters: &mut [u8], lines: &[u8], matches: &mut [u8], input: u8, radix: u8)
     requires { ToCount counters.old lines.now (length matches.old) radix }
     ensures matched { matches.new ≡ column_matches input lines.now matches.old }
     ensures counted { counters.new ≡ counted_bytes radix counters.old matches.new }
 {
-    let mut i: usize = 0;
-    while i < counters.len() {
+    for i in 0..counters.len() {
         let byte = cell_match(lines[i], input, matches[i]);
         matches[i] = byte;
         counters[i] = add_match(counters[i], byte, radix);
-        i += 1;
     }
 }
 
@@ -106,11 +101,9 @@ pub fn count_column(counters: &mut [u8], lines: &[u8], column: &[u8], input: u8,
     requires { ToCount counters.old lines.now (length column.now) radix }
     ensures { counters.new ≡ counted_bytes radix counters.old (column_matches input lines.now column.now) }
 {
-    let mut i: usize = 0;
-    while i < counters.len() {
+    for i in 0..counters.len() {
         let byte = cell_match(lines[i], input, column[i]);
         counters[i] = add_match(counters[i], byte, radix);
-        i += 1;
     }
 }
 
@@ -119,12 +112,8 @@ pub fn match_column(lines: &[u8], matches: &mut [u8], input: u8)
     requires { length lines.now ≡ length matches.old }
     ensures { matches.new ≡ column_matches input lines.now matches.old }
 {
-    let mut i: usize = 0;
-    while i < matches.len() {
-        let cell = matches[i];
-        let said = cell_match(lines[i], input, cell);
-        matches[i] = said;
-        i += 1;
+    for i in 0..matches.len() {
+        matches[i] = cell_match(lines[i], input, matches[i]);
     }
 }
 
@@ -133,10 +122,8 @@ pub fn match_lines(lines: &[u8], said: u8, matches: &mut [u8])
     requires { length lines.now ≡ length matches.old }
     ensures { matches.new ≡ given_bytes said lines.now (length matches.old) }
 {
-    let mut i: usize = 0;
-    while i < matches.len() {
+    for i in 0..matches.len() {
         matches[i] = line_gives(lines[i], said);
-        i += 1;
     }
 }
 
@@ -146,13 +133,11 @@ pub fn flag_rows(signs: &[u8], quiet: u8, flags: &mut [u8])
     requires { length signs.now ≡ length flags.old }
     ensures { flags.new ≡ flagged_bytes signs.now quiet flags.old }
 {
-    let mut i: usize = 0;
-    while i < flags.len() {
+    for i in 0..flags.len() {
         // one store for both cases, so that the loop can be compiled to vector code
         let kept = flags[i];
         let new = if signs[i] == quiet { kept } else { 1 };
         flags[i] = new;
-        i += 1;
     }
 }
 
@@ -162,7 +147,7 @@ pub fn reset_rows(counters: &mut [u8], flags: &mut [u8], totals: &mut [u8])
     ensures flagged { flags.new ≡ replicate (length flags.old) 0 }
     ensures totalled { totals.new ≡ replicate (length totals.old) 0 }
 {
-    fill(counters, 0);
-    fill(flags, 0);
-    fill(totals, 0);
+    counters.fill(0);
+    flags.fill(0);
+    totals.fill(0);
 }

@@ -10,12 +10,10 @@ fn count_flags(block: &[u8]) -> u8
     ensures { result ≡ count_flagged block.now }
 {
     let mut count: u8 = 0;
-    let mut i: usize = 0;
-    while i < block.len() {
-        if block[i] != 0 {
+    for &flag in block {
+        if flag != 0 {
             count += 1;
         }
-        i += 1;
     }
     count
 }
@@ -26,11 +24,9 @@ pub fn total_blocks(flags: &[u8], totals: &mut [u8])
     ensures { totals.new ≡ block_totals flags.now }
 {
     let mut start: usize = 0;
-    let mut i: usize = 0;
-    while i < totals.len() {
+    for total in totals.iter_mut() {
         let end = block_end(start, flags.len());
-        totals[i] = count_flags(&flags[start..end]);
+        *total = count_flags(&flags[start..end]);
         start = end;
-        i += 1;
     }
 }

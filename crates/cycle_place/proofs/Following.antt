@@ -1,13 +1,16 @@
 -- The place after that of a test: the next factor in its column, else the next column of J(ℓ), else the first of the next lower digit
 -- that is not skipped, else the first of the next check row, else the end. Assumes nothing.
-use mathlib.Core.Path.{◌≡◌, refl, sym, ap, ◌∙◌}
+use mathlib.Core.Path.{◌≡◌, refl, sym, ap, ap₂, ◌∙◌}
+use mathlib.Core.List.{List}
 use mathlib.Core.Bool.{Bool, true, false, ◌&&◌, and-false}
 use Prim.Native.Nat.{ℕ, suc, ◌+◌, ◌-◌, ◌*◌, ◌≤◌, ◌<◌}
 use native.Mathlib.Nat.{zero-div, mod-eq_of_lt}
+use native.Mathlib.Numerals.{add-one}
 use native.Mathlib.Omega.{arith}
 use lib.Dec.{eqb, ltb}
 use lib.ListN.{length}
 use borrow.Author.Tests.{eqb-true, ltb-true, ltb-false, eq-eqb, ne_eqb}
+use Rattle.std.specs.Prelude.{Option, Some, None}
 use Rattle.parity.specs.Lists.{sum_to}
 use Rattle.parity.specs.Shape.{checks, columns}
 use Rattle.parity.specs.Matrix.{matrix, places_from, support, matrix_ones, lookups}
@@ -21,13 +24,13 @@ use Rattle.schedule.specs.Index.{IsPlace, support_size, rank, span, place_index,
 use Rattle.schedule.proofs.Support.{support-some}
 use Rattle.schedule.proofs.Ranks.{factor_rank, Factor, stands-support, factor-last, span-step}
 use Rattle.cycle_place.specs.Places.{place_at, next_at}
-use Rattle.cycle_place.specs.Walk.{Stands, after_openings, index_of}
+use Rattle.cycle_place.specs.Walk.{Stands, after_openings, index_of, AtPlace, here_at, MatrixLent, TestAt}
 use Rattle.cycle_place.specs.declared.Place.{Place}
-use Rattle.cycle_place.specs.declared.walk.Next.TheVariants as nexts
+use Rattle.cycle_place.specs.declared.walk.Here.{Here}
 use Rattle.cycle_place.proofs.CheckRows.{ones_before, before-next, held_from, Held, held_found, held-some}
 use Rattle.cycle_place.proofs.Spans.{span-times, span-end, span_less}
 use Rattle.cycle_place.proofs.NextFactor.{next_factor, next-undivided, next-rank, next_low, next_last}
-use Rattle.cycle_place.proofs.Places.{AtPlace, place-next, place_end}
+use Rattle.cycle_place.proofs.Places.{place-next, place_end}
 
 -- how many tests stand before those of check row ℓ, and before those of digit d in the column of rank r there
 abbrev check_start : ℕ → Shape → ℕ → ℕ
@@ -102,9 +105,9 @@ module _ (z : ℕ) (s : Shape) (t : Taken s) (p : Place) (place : Stands z s p) 
   abbrev count : ℕ
   count = suc (index_of z s p)
 
-  pub follow-factor :
+  follow-factor :
       next_factor s.radix p.factor < span s p.digit
-      → next_at z s count ≡ nexts.Place (place_at p.check p.digit p.column (next_factor s.radix p.factor))
+      → next_at z s count ≡ Some (place_at p.check p.digit p.column (next_factor s.radix p.factor))
   unfolding place_index
   follow-factor more =
       let ρ : ℕ = s.radix in
@@ -129,7 +132,7 @@ module _ (z : ℕ) (s : Shape) (t : Taken s) (p : Place) (place : Stands z s p) 
       omega (arith, before-next (matrix s) p.check p.column (omega (arith, (matrix_claim s t).sized, place.column)), place.held)
 
   -- whether the search finds a column more in J(ℓ)
-  pub more-columns :
+  more-columns :
       held_from (matrix s) p.check (suc p.column) < length (matrix s) → suc (rank s p.check p.column) < support_size s p.check
   unfolding rank support_size support
   more-columns found =
@@ -140,7 +143,7 @@ module _ (z : ℕ) (s : Shape) (t : Taken s) (p : Place) (place : Stands z s p) 
         column-after,
       )
 
-  pub no-column :
+  no-column :
       length (matrix s) ≤ held_from (matrix s) p.check (suc p.column) → support_size s p.check ≤ suc (rank s p.check p.column)
   unfolding rank support_size support
   no-column missed = go (ltb (ones_before (matrix s) p.check (suc p.column)) (length (places_from 0 p.check (matrix s)))) refl
@@ -166,14 +169,14 @@ module _ (z : ℕ) (s : Shape) (t : Taken s) (p : Place) (place : Stands z s p) 
   abbrev ends : Bool
   ends = ends_at s p.check p.digit p.column p.factor
 
-  pub factor-more : next_factor s.radix p.factor < span s p.digit → ends ≡ false
+  factor-more : next_factor s.radix p.factor < span s p.digit → ends ≡ false
   unfolding ends_at
   factor-more more =
       ap (λ top. eqb (suc (rank s p.check p.column)) (support_size s p.check) && top)
       (ne_eqb (suc p.factor) (span s p.digit) (λ e. omega (arith, next_low s.radix (two s t) p.factor)))
       ∙ and-false (eqb (suc (rank s p.check p.column)) (support_size s p.check))
 
-  pub column-more : suc (rank s p.check p.column) < support_size s p.check → ends ≡ false
+  column-more : suc (rank s p.check p.column) < support_size s p.check → ends ≡ false
   unfolding ends_at
   column-more more = rw (ne_eqb (suc (rank s p.check p.column)) (support_size s p.check) (λ e. omega arith)) refl
 
@@ -196,9 +199,9 @@ module _ (z : ℕ) (s : Shape) (t : Taken s) (p : Place) (place : Stands z s p) 
         eqb-true _ _ (factor-last s (two s t) d place.digit a factor ∙ eq-eqb (suc a) (span s d) factor-top) in
         omega (arith, span-step s (two s t) d place.digit)
 
-    pub follow-column :
+    follow-column :
         suc (rank s p.check p.column) < support_size s p.check
-        → next_at z s count ≡ nexts.Place (place_at p.check p.digit (held_from (matrix s) p.check (suc p.column)) 1)
+        → next_at z s count ≡ Some (place_at p.check p.digit (held_from (matrix s) p.check (suc p.column)) 1)
     follow-column more =
         place-next z s t count _
         (start-place z s t p.check p.digit (suc p.column) count place.check place.unskipped
@@ -213,7 +216,7 @@ module _ (z : ℕ) (s : Shape) (t : Taken s) (p : Place) (place : Stands z s p) 
       digit-done : count ≡ after_openings (column_start z s p.check p.digit (support_size s p.check))
       digit-done = column-done ∙ ap (λ r. after_openings (column_start z s p.check p.digit r)) column-last
 
-      pub digit-ends : ends ≡ true
+      digit-ends : ends ≡ true
       unfolding ends_at
       digit-ends =
           simp (
@@ -221,9 +224,9 @@ module _ (z : ℕ) (s : Shape) (t : Taken s) (p : Place) (place : Stands z s p) 
             eq-eqb (suc p.factor) (span s p.digit) factor-top,
           )
 
-      pub follow-digit :
+      follow-digit :
           z < p.digit
-          → next_at z s count ≡ nexts.Place (place_at p.check (p.digit - 1) (held_from (matrix s) p.check 0) 1)
+          → next_at z s count ≡ Some (place_at p.check (p.digit - 1) (held_from (matrix s) p.check 0) 1)
       follow-digit more =
           let own : suc (p.digit - 1) ≡ p.digit = omega arith in
           place-next z s t count _
@@ -242,15 +245,81 @@ module _ (z : ℕ) (s : Shape) (t : Taken s) (p : Place) (place : Stands z s p) 
             digit-done ∙ ap (λ d. after_openings (column_start z s p.check d (support_size s p.check))) lowest
             ∙ ap after_openings (check-end z s t p.check (omega (arith, place.digit)))
 
-        pub follow-check :
+        follow-check :
             suc p.check < checks s
-            → next_at z s count ≡ nexts.Place (place_at (suc p.check) (s.digits - 1) (held_from (matrix s) (suc p.check) 0) 1)
+            → next_at z s count ≡ Some (place_at (suc p.check) (s.digits - 1) (held_from (matrix s) (suc p.check) 0) 1)
         follow-check more =
             place-next z s t count _
             (first-place z s t (suc p.check) (s.digits - 1) count more (omega (arith, place.digit)) (omega (arith, place.digit))
             (check_done ∙ ap after_openings (sym (check-start z s t (suc p.check)))))
 
-        pub follow-end : checks s ≤ suc p.check → next_at z s count ≡ nexts.End
+        follow-end : checks s ≤ suc p.check → next_at z s count ≡ None
         follow-end end =
             let all : suc p.check ≡ checks s = omega (arith, place.check) in
             place_end z s t count (omega (arith, check_done ∙ ap (λ ℓ. after_openings (check_start z s ℓ)) all ∙ ap after_openings (checks-end z s t)))
+
+-- ---- .. and whether the digit ends, from what the code finds
+
+module _ {z : ℕ} {s : Shape} {p : Place} {r reach : ℕ} {cs : List ℕ} (lent : MatrixLent s r cs) (at : TestAt z s p reach) where
+  told :
+      {ends : Bool} {next after : Option Place} → ends_at s p.check p.digit p.column p.factor ≡ ends → next_at z s (suc (index_of z s p)) ≡ after
+      → next ≡ after → ◌≡◌ {A = Here} (record { ends = ends; next = next }) (here_at z s (index_of z s p) p)
+  told ends law same = λ i. record { ends = sym ends i; next = (same ∙ sym law) i }
+
+  module _ {factor : ℕ} (stepped : factor ≡ next_factor s.radix p.factor) where
+    -- the next factor
+    pub here-factor :
+        factor < reach
+        → ◌≡◌ {A = Here} (record { ends = false; next = Some (place_at p.check p.digit p.column factor) }) (here_at z s (index_of z s p) p)
+    here-factor more =
+        let less : next_factor s.radix p.factor < span s p.digit = omega (arith, at.span) in
+        told (factor-more z s lent.taken p at.stands less) (follow-factor z s lent.taken p at.stands less)
+        (ap (λ a. Some (place_at p.check p.digit p.column a)) stepped)
+
+    module _ (end : reach ≤ factor) {later : ℕ} (found : later ≡ held_from cs p.check (p.column + 1)) where
+      past : span s p.digit ≤ next_factor s.radix p.factor
+      past = omega (arith, at.span)
+
+      later_is : later ≡ held_from (matrix s) p.check (suc p.column)
+      later_is = found ∙ ap₂ (λ cs i. held_from cs p.check i) lent.matrix (add-one p.column)
+
+      -- the next column
+      pub here-column :
+          later < length cs
+          → ◌≡◌ {A = Here} (record { ends = false; next = Some (place_at p.check p.digit later 1) }) (here_at z s (index_of z s p) p)
+      here-column more =
+          let some = more-columns z s lent.taken p at.stands (omega (arith, later_is, ap length lent.matrix)) in
+          told (column-more z s lent.taken p at.stands some) (follow-column z s lent.taken p at.stands past some)
+          (ap (λ j. Some (place_at p.check p.digit j 1)) later_is)
+
+      module _ (none : length cs ≤ later) where
+        last : support_size s p.check ≤ suc (rank s p.check p.column)
+        last = no-column z s lent.taken p at.stands (omega (arith, later_is, ap length lent.matrix))
+
+        ended : ends_at s p.check p.digit p.column p.factor ≡ true
+        ended = digit-ends z s lent.taken p at.stands past last
+
+        -- the next digit
+        pub here-digit :
+            z < p.digit → {j : ℕ} → j ≡ held_from cs p.check 0
+            → ◌≡◌ {A = Here} (record { ends = true; next = Some (place_at p.check (p.digit - 1) j 1) }) (here_at z s (index_of z s p) p)
+        here-digit more first =
+            told ended (follow-digit z s lent.taken p at.stands past last more)
+            (ap (λ j. Some (place_at p.check (p.digit - 1) j 1)) (first ∙ ap (λ cs. held_from cs p.check 0) lent.matrix))
+
+        -- the digit that is not above those skipped is the lowest of the others
+        module _ (lowest : p.digit ≤ z) where
+          own : p.digit ≡ z
+          own = omega (arith, at.stands.unskipped)
+
+          -- the next check row
+          pub here-check :
+              p.check + 1 < r → {j : ℕ} → j ≡ held_from cs (p.check + 1) 0
+              → ◌≡◌ {A = Here} (record { ends = true; next = Some (place_at (p.check + 1) (s.digits - 1) j 1) }) (here_at z s (index_of z s p) p)
+          here-check more first =
+              told ended (follow-check z s lent.taken p at.stands past last own (omega (arith, lent.checks)))
+              (λ i. Some (place_at (add-one p.check i) (s.digits - 1) ((first ∙ ap₂ (λ cs ℓ. held_from cs ℓ 0) lent.matrix (add-one p.check)) i) 1))
+
+          -- the end
+          pub here-end : r ≤ p.check + 1 → ◌≡◌ {A = Here} (record { ends = true; next = None }) (here_at z s (index_of z s p) p)
+          here-end end = told ended (follow-end z s lent.taken p at.stands past last own (omega (arith, lent.checks))) refl

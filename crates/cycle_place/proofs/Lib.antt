@@ -4,4 +4,6 @@ pub mod Padding
 pub mod Spans
 pub mod NextFactor
 pub mod Places
+pub mod Standing
+pub mod Openings
 pub mod Following

@@ -5,9 +5,10 @@ use Prim.Native.Nat.{ℕ, zero, suc, ◌≤◌, ◌<◌}
 use native.Mathlib.Omega.{arith}
 use lib.ListN.{length, get_or, take, replicate, length-take}
 use lib.Pow.{pow_pos}
-use lib.Seq.{take_at, take-append-le, get_or-take}
+use lib.Seq.{take_at, take-append-le, get_or-take, length-take-le}
 use Rattle.parity.specs.Lists.{sum_over, sum_to}
 use Rattle.parity.specs.Matrix.{bit, places_from, matrix}
+use Rattle.parity.specs.Shape.{columns}
 use Rattle.parity.specs.declared.Shape.{Shape}
 use Rattle.parity.proofs.ListLaws.{sum-append}
 use Rattle.parity.proofs.MatrixFacts.{matrix_claim}
@@ -41,6 +42,10 @@ survey-padded cs p ℓ j h = λ i.
       rank = length (places_from 0 ℓ (take-append-le j cs (replicate p 0) h i));
     }
 
+-- the matrix has its columns
+pub matrix-sized : {s : Shape} {r : ℕ} {bytes : List ℕ} → MatrixLent s r bytes → length bytes ≡ columns s
+matrix-sized {s = s} lent = ap length lent.matrix ∙ (matrix_claim s lent.taken).sized
+
 module _ {s : Shape} {r n : ℕ} {bytes : List ℕ} (lent : PaddedLent s r n bytes) where
   sized : length (matrix s) ≡ n
   sized = (matrix_claim s lent.taken).sized ∙ sym lent.columns
@@ -51,7 +56,10 @@ module _ {s : Shape} {r n : ℕ} {bytes : List ℕ} (lent : PaddedLent s r n byt
   pub padded-within : n ≤ length bytes
   padded-within = omega (arith, ap length front, sized, length-take n bytes)
 
-  -- the first n bytes are the matrix
+  -- the first n bytes, as many as asked for, are the matrix
+  pub padded-part : n ≡ length (take n bytes)
+  padded-part = sym (length-take-le n bytes padded-within)
+
   pub padded-matrix : MatrixLent s r (take n bytes)
   padded-matrix = record { taken = lent.taken; checks = lent.checks; matrix = front }
 

@@ -8,6 +8,7 @@ use native.Mathlib.Omega.{arith}
 use lib.Dec.{eqb, ltb}
 use lib.ListN.{length}
 use borrow.Author.Tests.{eqb-true, eq-eqb, ltb-true, lt-ltb, le-ltb}
+use Rattle.std.specs.Prelude.{Some, None}
 use Rattle.parity.specs.Matrix.{cycle_steps}
 use Rattle.parity.specs.Questions.{Taken}
 use Rattle.parity.specs.declared.Shape.{Shape}
@@ -16,9 +17,8 @@ use Rattle.schedule.specs.Index.{entry_of}
 use Rattle.schedule.proofs.Length.{tests-length, schedule-length}
 use Rattle.schedule.proofs.Index.{index_claim}
 use Rattle.cycle_place.specs.Places.{place_at, place_of, entry_at, next_at, same_place, is_place_of}
-use Rattle.cycle_place.specs.Walk.{Stands, after_openings, index_of}
+use Rattle.cycle_place.specs.Walk.{after_openings, index_of, AtPlace}
 use Rattle.cycle_place.specs.declared.Place.{Place}
-use Rattle.cycle_place.specs.declared.walk.Next.TheVariants as nexts
 
 pub same_place-equal : (p q : Place) → same_place p q ≡ true → p ≡ q
 same_place-equal p q e =
@@ -39,10 +39,6 @@ place_same p =
       eq-eqb p.column p.column refl,
       eq-eqb p.factor p.factor refl,
     )
-
--- the place of a test that has index c
-abbrev pub AtPlace : ℕ → Shape → ℕ → Place → Type 0
-AtPlace z s c p = Stands z s p × (index_of z s p ≡ c)
 
 module _ (z : ℕ) (s : Shape) (t : Taken s) where
   -- the lookup after c others is at the place that has this index ..
@@ -65,14 +61,14 @@ module _ (z : ℕ) (s : Shape) (t : Taken s) where
       subst (AtPlace z s (after_openings c)) (sym (ap place_of (place-entry (after_openings c) (place_at ℓ d j a) at).1)) at
 
   module _ (c : ℕ) where
-    pub place-next : (p : Place) → AtPlace z s c p → next_at z s c ≡ nexts.Place p
+    pub place-next : (p : Place) → AtPlace z s c p → next_at z s c ≡ Some p
     unfolding next_at
     place-next p at =
         let entry = place-entry c p at in
-        rw (lt-ltb c (length (schedule z s)) (rw (schedule-length z s t) entry.0)) (ap (λ e. nexts.Place (place_of e)) entry.1)
+        rw (lt-ltb c (length (schedule z s)) (rw (schedule-length z s t) entry.0)) (ap (λ e. Some (place_of e)) entry.1)
 
     -- .. and there is none from the cycle's length on
-    pub place_end : cycle_steps z s ≤ c → next_at z s c ≡ nexts.End
+    pub place_end : cycle_steps z s ≤ c → next_at z s c ≡ None
     unfolding next_at
     place_end h = rw (le-ltb c (length (schedule z s)) (rw (schedule-length z s t) h)) refl
 

@@ -1,7 +1,7 @@
 -- The spans q / ρ^d of the digits: each ρ times the next, and 1 past the last digit. Assumes nothing.
 use mathlib.Core.Path.{◌≡◌, sym, ap, ◌∙◌}
 use Prim.Native.Nat.{ℕ, suc, ◌+◌, ◌-◌, ◌*◌, ◌/◌, ◌^◌, ◌≤◌, ◌<◌}
-use native.Mathlib.Nat.{mul-le-mul_right, div_self, mul-div_cancel, div-le_self, one-le-pow}
+use native.Mathlib.Nat.{one-mul, mul-le-mul_right, div_self, mul-div_cancel, div-le_self, one-le-pow}
 use native.Mathlib.Omega.{arith}
 use lib.Pow.{pow-add}
 use Rattle.parity.specs.Shape.{levels}
@@ -55,6 +55,10 @@ module _ (s : Shape) (t : Taken s) where
     span-power =
         let same : s.digits - d - 1 ≡ s.digits - suc d = omega arith in
         ap (λ e. s.radix ^ e) same ∙ sym (span-as (suc d) h)
+
+    -- .. and the own one, from it
+    pub span-above : {next : ℕ} → next ≡ 1 * s.radix ^ (s.digits - d - 1) → next * s.radix ≡ span s d
+    span-above e = ap (λ x. x * s.radix) (e ∙ one-mul _ ∙ span-power) ∙ sym span-times
 
     -- .. and that of a digit z below from the own one
     pub span-down : (z : ℕ) → z ≤ d → span s d * s.radix ^ (d - z) ≡ span s z

@@ -1,10 +1,8 @@
 -- The place of a lookup in the schedule, and the place of the lookup that comes after so many others.
-use Rattle.std.specs.Prelude.{Bool, cond, ◌&&◌, ℕ, eqb, ltb, length, get_or}
+use Rattle.std.specs.Prelude.{Bool, cond, ◌&&◌, ℕ, eqb, ltb, Option, Some, None, length, get_or}
 use Rattle.parity.specs.declared.Shape.{Shape}
 use Rattle.schedule.specs.Schedule.{Kind, opens, counts, Entry, within, schedule}
 use Rattle.cycle_place.specs.declared.Place.{Place}
-use Rattle.cycle_place.specs.declared.walk.Next.{Next}
-use Rattle.cycle_place.specs.declared.walk.Next.TheVariants as nexts
 
 -- the place with ℓ, s, j and a
 abbrev pub place_at : ℕ → ℕ → ℕ → ℕ → Place
@@ -23,8 +21,8 @@ unfoldable pub entry_at : ℕ → Shape → ℕ → Entry
 entry_at z s c = get_or (schedule z s) c (within 0 0 0 0)
 
 -- the place of the lookup after c others, or the end: no vector is to come
-unfoldable pub next_at : ℕ → Shape → ℕ → Next
-next_at z s c = cond (ltb c (length (schedule z s))) (nexts.Place (place_of (entry_at z s c))) nexts.End
+unfoldable pub next_at : ℕ → Shape → ℕ → Option Place
+next_at z s c = cond (ltb c (length (schedule z s))) (Some (place_of (entry_at z s c))) None
 
 abbrev pub same_place : Place → Place → Bool
 same_place p q = eqb p.check q.check && eqb p.digit q.digit && eqb p.column q.column && eqb p.factor q.factor

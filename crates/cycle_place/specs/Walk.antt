@@ -1,5 +1,5 @@
 -- Only serves the code's own contracts: where a test's place stands in the schedule, and what a step is told at the place after so many lookups.
-use Rattle.std.specs.Prelude.{◌≡◌, cond, List, ◌++◌, ℕ, zero, suc, replicate}
+use Rattle.std.specs.Prelude.{◌≡◌, cond, List, ◌++◌, ℕ, zero, suc, Option, Some, None, replicate}
 use Rattle.parity.specs.Shape.{checks as checks_of, columns as columns_of}
 use Rattle.parity.specs.Matrix.{matrix as matrix_of}
 use Rattle.parity.specs.Questions.{Taken}
@@ -8,8 +8,6 @@ use Rattle.schedule.specs.Schedule.{Entry}
 use Rattle.schedule.specs.Index.{IsPlace, span, place_index, ends_at, entry_of}
 use Rattle.cycle_place.specs.Places.{next_at, is_place_of}
 use Rattle.cycle_place.specs.declared.Place.{Place}
-use Rattle.cycle_place.specs.declared.walk.Sought.{Sought}
-use Rattle.cycle_place.specs.declared.walk.Sought.TheVariants as soughts
 use Rattle.cycle_place.specs.declared.walk.Here.{Here}
 use Rattle.cycle_place.specs.declared.walk.Located.{Located}
 use Rattle.cycle_place.specs.declared.walk.Located.TheVariants.{Opening, Test, Elsewhere}
@@ -26,13 +24,17 @@ after_openings c = suc (suc c)
 abbrev pub index_of : ℕ → Shape → Place → ℕ
 index_of z s p = after_openings (place_index z s p.check p.digit p.column p.factor)
 
+-- the place of a test that comes after c other lookups
+abbrev pub AtPlace : ℕ → Shape → ℕ → Place → Type 0
+AtPlace z s c p = Stands z s p × (index_of z s p ≡ c)
+
 -- the test at a place
 abbrev pub test_of : ℕ → Shape → Place → Entry
 test_of z s p = entry_of z s p.check p.digit p.column p.factor
 
 -- a test is found at the place of the lookup after c others, with q / ρ^s, and nothing elsewhere
-abbrev pub sought_at : ℕ → Shape → ℕ → Place → Sought
-sought_at z s c p = cond (is_place_of z s c p) (soughts.At (span s p.digit)) soughts.Elsewhere
+abbrev pub sought_at : ℕ → Shape → ℕ → Place → Option ℕ
+sought_at z s c p = cond (is_place_of z s c p) (Some (span s p.digit)) None
 
 -- a test that is next, after c others: whether it is the last of its check row and digit, and the place after it
 abbrev pub here_at : ℕ → Shape → ℕ → Place → Here

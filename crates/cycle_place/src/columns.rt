@@ -3,7 +3,7 @@ ghost use Rattle.std.specs.Prelude.{◌≡◌, ◌^◌, ◌≤◌, ◌<◌, leng
 ghost use Rattle.parity.specs.Matrix.{places_from};
 ghost use Rattle.cycle_place.specs.Survey.{survey_of, held_from, ColumnsLent};
 
-use shape::byte::{power_of_two, wide};
+use shape::byte::power_of_two;
 
 // What the matrix tells of check row ℓ and column j: the ones in the check rows before ℓ, those in ℓ, and
 // those in ℓ before j.
@@ -29,14 +29,12 @@ fn count_held(matrix: &[u8], check: usize) -> usize
 {
     let mask = mask_of(check);
     let mut count: u8 = 0;
-    let mut j: usize = 0;
-    while j < matrix.len() {
-        if matrix[j] & mask != 0 {
+    for &column in matrix {
+        if column & mask != 0 {
             count += 1;
         }
-        j += 1;
     }
-    wide(count)
+    usize::from(count)
 }
 
 pub(crate) fn survey_check(matrix: &[u8], check: usize, column: usize) -> Survey
@@ -45,10 +43,8 @@ pub(crate) fn survey_check(matrix: &[u8], check: usize, column: usize) -> Survey
     ensures { result ≡ survey_of matrix.now check column }
 {
     let mut before: usize = 0;
-    let mut l: usize = 0;
-    while l < check {
+    for l in 0..check {
         before += count_held(matrix, l);
-        l += 1;
     }
     let size = count_held(matrix, check);
     let rank = count_held(&matrix[..column], check);
@@ -62,12 +58,10 @@ pub(crate) fn next_held(matrix: &[u8], check: usize, from: usize) -> usize
     ensures { result ≡ held_from matrix.now check from }
 {
     let mask = mask_of(check);
-    let mut j = from;
-    while j < matrix.len() {
+    for j in from..matrix.len() {
         if matrix[j] & mask != 0 {
             return j;
         }
-        j += 1;
     }
-    j
+    matrix.len()
 }

@@ -11,10 +11,8 @@ pub fn scale(number: usize, radix: usize, exponent: usize) -> usize
     ensures { result ≡ number * radix ^ exponent }
 {
     let mut product = number;
-    let mut e: usize = 0;
-    while e < exponent {
-        product = product * radix;
-        e += 1;
+    for _ in 0..exponent {
+        product *= radix;
     }
     product
 }
@@ -24,13 +22,7 @@ pub(crate) fn is_factor(factor: usize, span: usize, radix: usize) -> bool
     requires { 0 < radix }
     ensures { result ≡ leb 1 factor && ltb factor span && not (eqb (factor % radix) 0) }
 {
-    if factor == 0 {
-        return false;
-    }
-    if span <= factor {
-        return false;
-    }
-    factor % radix != 0
+    0 < factor && factor < span && factor % radix != 0
 }
 
 // The factor after one that ρ does not divide.

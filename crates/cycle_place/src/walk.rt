@@ -1,63 +1,50 @@
 // The walk through the schedule: whether a place is that of the lookup after so many others, and the place that comes next, in one
 // answer.
-ghost use Rattle.std.specs.Prelude.{◌≡◌, ℕ, ◌<◌};
-ghost use Rattle.parity.specs.Shape.{checks as checks_of};
-ghost use Rattle.cycle_place.specs.Places.{place_at, next_at, same_place};
-ghost use Rattle.cycle_place.specs.declared.walk.Next.TheVariants.{Place as NextPlace};
-ghost use Rattle.cycle_place.specs.Walk.{index_of, sought_at, here_at, located_at, MatrixLent, PaddedLent, TestAt};
+ghost use Rattle.std.specs.Prelude.{◌≡◌, ℕ, suc, ◌<◌, Some};
+ghost use Rattle.parity.specs.Shape.{checks as checks_of, columns as columns_of};
+ghost use Rattle.schedule.specs.Index.{span};
+ghost use Rattle.cycle_place.specs.Places.{next_at};
+ghost use Rattle.cycle_place.specs.Walk.{Stands, index_of, AtPlace, sought_at, here_at, located_at, MatrixLent, PaddedLent, TestAt};
 
 use super::Place;
 use super::columns::{next_held, survey_check};
 use super::factors::{index_of, is_factor, next_factor, scale};
 use parity::Shape;
-use shape::byte::{power_of_two, wide};
+use shape::byte::power_of_two;
 
-// Whether a test is found at a place, and q / ρ^s of its digit.
-#[derive(Clone, Copy)]
-pub(crate) enum Sought {
-    At(usize),
-    Elsewhere,
-}
-
-// The place of a next lookup, or that there is none.
-#[derive(Clone, Copy)]
-pub enum Next {
-    Place(Place),
-    End,
-}
-
-// A test that is next: whether it is the last of its check row and digit, and the place after it.
+// A test that is next: whether it is the last of its check row and digit, and the place after it, if a lookup is to come.
 #[derive(Clone, Copy)]
 pub struct Here {
     pub ends: bool,
-    pub next: Next,
+    pub next: Option<Place>,
 }
 
 // What a place is: that of an opening, with the match byte that a row with a sound line gives it and the place after it, that of
 // a test, or none.
 #[derive(Clone, Copy)]
 pub enum Located {
-    Opening(u8, Next),
+    Opening(u8, Option<Place>),
     Test(Here),
     Elsewhere,
 }
 
-fn is_zero(place: Place) -> bool
-    ensures { result ≡ same_place place (place_at 0 0 0 0) }
+// How many lookups come before the test at a place, where next is q / ρ^(s+1) of its digit s.
+fn count_before(place: Place, next: usize, skip: usize, shape: Shape, padded: &[u8]) -> usize
+    requires padded_lent { PaddedLent shape (checks_of shape) (columns_of shape) padded.now }
+    requires stands { Stands skip shape place }
+    requires next_value { next ≡ span shape (suc place.digit) }
+    ensures { AtPlace skip shape result place }
 {
-    if place.check != 0 {
-        return false;
-    }
-    if place.digit != 0 {
-        return false;
-    }
-    if place.column != 0 {
-        return false;
-    }
-    place.factor == 0
+    let radix = shape.radix;
+    let survey = survey_check(padded, place.check, place.column);
+    // q / ρ^z
+    let levels = scale(next * radix, radix, place.digit - skip);
+    // the two openings come before the tests
+    index_of(levels, radix, place.factor, next, survey) + 2
 }
 
-// Whether the test at a place is the lookup that comes after so many others.
+// q / ρ^s of the digit of the test at a place, if that is the lookup that comes after so many others.
+#[tactic(auto, using(crate::proofs::Standing::place_tests))]
 fn locate_test(
     place: Place,
     skip: usize,
@@ -66,7 +53,7 @@ fn locate_test(
     checks: usize,
     columns: usize,
     padded: &[u8],
-) -> Sought
+) -> Option<usize>
     requires padded_lent { PaddedLent shape checks columns padded.now }
     requires lt_count { 1 < count }
     ensures { result ≡ sought_at skip shape count place }
@@ -74,42 +61,28 @@ fn locate_test(
     let check = place.check;
     let digit = place.digit;
     let column = place.column;
-    let factor = place.factor;
     let radix = shape.radix;
-    if checks <= check {
-        return Sought::Elsewhere;
+    if checks <= check || shape.digits <= digit || digit < skip || columns <= column {
+        return None;
     }
-    if shape.digits <= digit {
-        return Sought::Elsewhere;
-    }
-    if digit < skip {
-        return Sought::Elsewhere;
-    }
-    if columns <= column {
-        return Sought::Elsewhere;
-    }
-    if wide(padded[column]) / power_of_two(check) % 2 == 0 {
-        return Sought::Elsewhere;
+    if usize::from(padded[column]) / power_of_two(check) % 2 == 0 {
+        return None;
     }
     let next = scale(1, radix, shape.digits - digit - 1);
     let span = next * radix;
-    if !is_factor(factor, span, radix) {
-        return Sought::Elsewhere;
+    if !is_factor(place.factor, span, radix) {
+        return None;
     }
-    let survey = survey_check(padded, check, column);
-    // q / ρ^z
-    let levels = scale(span, radix, digit - skip);
-    // the two openings come before the tests
-    if index_of(levels, radix, factor, next, survey) + 2 != count {
-        return Sought::Elsewhere;
+    if count_before(place, next, skip, shape, padded) != count {
+        return None;
     }
-    Sought::At(span)
+    Some(span)
 }
 
 // The place of a cycle's first test, which comes after the openings, whatever digits it skips.
 pub fn first(shape: Shape, matrix: &[u8]) -> Place
     requires { MatrixLent shape (checks_of shape) matrix.now }
-    ensures { (z : ℕ) → z < shape.digits → next_at z shape 2 ≡ NextPlace result }
+    ensures { (z : ℕ) → z < shape.digits → next_at z shape 2 ≡ Some result }
 {
     let digits = shape.digits;
     Place {
@@ -134,51 +107,56 @@ pub fn follow(
     requires test_at { TestAt skip shape place span }
     ensures { result ≡ here_at skip shape (index_of skip shape place) place }
 {
-    let mut next = place;
     let check = place.check;
     let digit = place.digit;
-    let column = place.column;
     let factor = next_factor(place.factor, shape.radix);
     if factor < span {
-        next.factor = factor;
         return Here {
             ends: false,
-            next: Next::Place(next),
+            next: Some(Place { factor, ..place }),
         };
     }
-    next.factor = 1;
-    let later = next_held(matrix, check, column + 1);
+    let later = next_held(matrix, check, place.column + 1);
     if later < matrix.len() {
-        next.column = later;
         return Here {
             ends: false,
-            next: Next::Place(next),
+            next: Some(Place {
+                column: later,
+                factor: 1,
+                ..place
+            }),
         };
     }
     if skip < digit {
-        next.digit = digit - 1;
-        next.column = next_held(matrix, check, 0);
         return Here {
             ends: true,
-            next: Next::Place(next),
+            next: Some(Place {
+                check,
+                digit: digit - 1,
+                column: next_held(matrix, check, 0),
+                factor: 1,
+            }),
         };
     }
     if check + 1 < checks {
-        next.check = check + 1;
-        next.digit = shape.digits - 1;
-        next.column = next_held(matrix, check + 1, 0);
         return Here {
             ends: true,
-            next: Next::Place(next),
+            next: Some(Place {
+                check: check + 1,
+                digit: shape.digits - 1,
+                column: next_held(matrix, check + 1, 0),
+                factor: 1,
+            }),
         };
     }
     Here {
         ends: true,
-        next: Next::End,
+        next: None,
     }
 }
 
 // One of the first two lookups, if its place is an opening's, all 0, in a cycle that does not skip all digits.
+#[tactic(auto, using(crate::proofs::Openings::opening_asked, crate::proofs::Openings::second_place))]
 fn locate_opening(place: Place, skip: usize, count: usize, shape: Shape, matrix: &[u8]) -> Located
     requires matrix_lent { MatrixLent shape (checks_of shape) matrix.now }
     requires count_bound { count < 2 }
@@ -187,16 +165,17 @@ fn locate_opening(place: Place, skip: usize, count: usize, shape: Shape, matrix:
     if shape.digits <= skip {
         return Located::Elsewhere;
     }
-    if !is_zero(place) {
+    if place != Place::NO_TEST {
         return Located::Elsewhere;
     }
     if count == 0 {
-        return Located::Opening(1, Next::Place(place));
+        return Located::Opening(1, Some(place));
     }
-    Located::Opening(0, Next::Place(first(shape, matrix)))
+    Located::Opening(0, Some(first(shape, matrix)))
 }
 
-// The lookup that comes after so many others, if its place is this one.
+// The lookup that comes after so many others, if its place is this one. The columns are lent with zeros behind them, and their number
+// beside: so a step counts 32 of them at a time.
 pub fn locate(
     place: Place,
     skip: usize,
@@ -212,15 +191,8 @@ pub fn locate(
     if count < 2 {
         return locate_opening(place, skip, count, shape, &padded[..columns]);
     }
-    match locate_test(place, skip, count, shape, checks, columns, padded) {
-        Sought::Elsewhere => Located::Elsewhere,
-        Sought::At(span) => Located::Test(follow(
-            place,
-            span,
-            skip,
-            shape,
-            checks,
-            &padded[..columns],
-        )),
-    }
+    let Some(span) = locate_test(place, skip, count, shape, checks, columns, padded) else {
+        return Located::Elsewhere;
+    };
+    Located::Test(follow(place, span, skip, shape, checks, &padded[..columns]))
 }

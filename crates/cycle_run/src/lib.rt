@@ -7,12 +7,11 @@ ghost use Rattle.cycle.specs.Calls.{state_of};
 ghost use Rattle.cycle.specs.Methods.{changing};
 ghost use Rattle.cycle_run.specs.Cycles.{cycle_call};
 
-use array_questions::memory::check_lent;
+use array_questions::memory::check_run;
 use cycle::calls::{refused, start_lent};
 use cycle::{Changed, Cycle};
 use cycle_steps::steps_lent;
 use parity::Shape;
-use shape::sizes::{Checked, check_shape};
 
 // One whole cycle: a start, and steps to its end; no cycle has more than the longest.
 pub fn run_cycle(
@@ -29,9 +28,9 @@ pub fn run_cycle(
     ensures { (mem : Memory) → cycle_call shape (state_of (with_all cells.now lines.now counters.old flags.old totals.old mem) cycle) skip matches.old
         ≡ changing result matches.new (with_all cells.now lines.now counters.new flags.new totals.new mem) }
 {
-    match check_lent(
-        check_shape(shape).check(15, skip < shape.digits),
+    match check_run(
         shape,
+        skip,
         cells.len(),
         lines.len(),
         counters.len(),
@@ -39,8 +38,8 @@ pub fn run_cycle(
         totals.len(),
         matches.len(),
     ) {
-        Checked::Refused(number) => refused(cycle, number),
-        Checked::Taken(sizes) => {
+        Err(refusal) => refused(cycle, refusal),
+        Ok(sizes) => {
             let started = start_lent(shape, sizes, skip, counters, flags, totals);
             steps_lent(
                 started,

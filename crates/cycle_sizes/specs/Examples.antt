@@ -10,7 +10,7 @@ example_one = record { radix = 2; digits = 3; errors = 2; width = 50; rows = 512
 abbrev pub SizesExampleClaim : Type 0
 SizesExampleClaim =
     map (sizes_call example_one) (0 ∷ 1 ∷ 3 ∷ [])
-    ≡ accepted (record { levels = 8; checks = 6; columns = 56; cells = 28672; blocks = 8; steps = 1094 })
-    ∷ accepted (record { levels = 8; checks = 6; columns = 56; cells = 28672; blocks = 8; steps = 470 })
+    ≡ accepted (record { sizes = record { levels = 8; checks = 6; columns = 56; cells = 28672 }; blocks = 8; steps = 1094 })
+    ∷ accepted (record { sizes = record { levels = 8; checks = 6; columns = 56; cells = 28672 }; blocks = 8; steps = 470 })
     ∷ refused no_cycle_sizes 15
     ∷ []

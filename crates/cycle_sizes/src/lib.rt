@@ -13,30 +13,18 @@ use acam::order::ones;
 use array_memory::blocks::block_count;
 use cycle_place::factors::scale;
 use parity::Shape;
-use shape::sizes::{Checked, Sizes, check_shape};
+use shape::answer::{Answer, Refusal};
+use shape::sizes::{Sizes, check_shape};
 
 // The sizes of a shape that is taken, with what a cycle needs.
 #[derive(Clone, Copy)]
 pub struct CycleSizes {
-    // q
-    pub levels: usize,
-    // r
-    pub checks: usize,
-    // n
-    pub columns: usize,
-    // m × n
-    pub cells: usize,
+    // q, r, n, m × n
+    pub sizes: Sizes,
     // ⌈m / 64⌉
     pub blocks: usize,
     // of a cycle, its two openings among them
     pub steps: usize,
-}
-
-// A shape's sizes, or the number of the first question that fails.
-#[derive(Clone, Copy)]
-pub enum CycleSized {
-    Taken(CycleSizes),
-    Refused(u8),
 }
 
 // The ones of so many columns.
@@ -46,19 +34,19 @@ pub fn count_ones(columns: &[u8]) -> usize
     ensures few { result ≤ 8 * 255 }
 {
     let mut sum: usize = 0;
-    let mut j: usize = 0;
-    while j < columns.len() {
-        sum += ones(columns[j]);
-        j += 1;
+    for &column in columns {
+        sum += ones(column);
     }
     sum
 }
 
 // 1 to 5, then 15.
-fn check_sizes(shape: Shape, skip: usize) -> Checked
+fn check_sizes(shape: Shape, skip: usize) -> Answer<Sizes>
     ensures { checked_says result ≡ sizes_if (first_no (sizes_questions shape skip)) shape }
 {
-    check_shape(shape).check(15, skip < shape.digits)
+    let sizes = check_shape(shape)?;
+    Refusal::Skip.unless(skip < shape.digits)?;
+    Ok(sizes)
 }
 
 // The two openings, and q / ρ^z − 1 lookups for each one of the check matrix.
@@ -74,21 +62,13 @@ fn count_steps(shape: Shape, sizes: Sizes, skip: usize) -> usize
 }
 
 // Sizes: q, r, n, m × n, the blocks of rows, and the steps of a cycle that skips so many low digits.
-pub fn sizes(shape: Shape, skip: usize) -> CycleSized
+pub fn sizes(shape: Shape, skip: usize) -> Answer<CycleSizes>
     ensures { sizes_call shape skip ≡ sized_says result }
 {
-    match check_sizes(shape, skip) {
-        Checked::Refused(number) => CycleSized::Refused(number),
-        Checked::Taken(sizes) => {
-            let steps = count_steps(shape, sizes, skip);
-            CycleSized::Taken(CycleSizes {
-                levels: sizes.levels,
-                checks: sizes.checks,
-                columns: sizes.columns,
-                cells: sizes.cells,
-                blocks: block_count(shape.rows),
-                steps,
-            })
-        }
-    }
+    let sizes = check_sizes(shape, skip)?;
+    Ok(CycleSizes {
+        sizes,
+        blocks: block_count(shape.rows),
+        steps: count_steps(shape, sizes, skip),
+    })
 }

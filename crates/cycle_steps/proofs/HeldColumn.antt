@@ -6,27 +6,29 @@ use Prim.Native.Nat.{ℕ, zero, suc, ◌≤◌, ◌<◌}
 use native.Mathlib.Omega.{arith}
 use lib.ListN.{length, get_or}
 use borrow.Author.Tests.{ltb-true}
+use Rattle.std.specs.Prelude.{Option}
 use Rattle.parity.specs.Matrix.{cycle_steps}
 use Rattle.parity.specs.Shape.{columns}
 use Rattle.parity.specs.Questions.{Taken}
 use Rattle.parity.specs.declared.Shape.{Shape}
 use Rattle.parity.proofs.ListLaws.{length-tabulate}
+use Rattle.parity.proofs.Longest.{lookups-high}
 use Rattle.parity.proofs.Taken.{limits}
 use Rattle.shape.specs.Answers.{accepted, giving}
 use Rattle.array_memory.specs.Lengths.{Sized}
 use Rattle.array_memory.specs.Memory.{Memory, with_all, no_memory}
 use Rattle.cycle_passes.specs.Passes.{column_cells, reduced_bytes}
 use Rattle.cycle_place.specs.Places.{next_at}
-use Rattle.cycle_place.specs.Walk.{Stands, index_of, test_of}
+use Rattle.cycle_place.specs.Walk.{Stands, index_of, AtPlace, test_of}
 use Rattle.cycle_place.specs.declared.Place.{Place}
-use Rattle.cycle_place.specs.declared.walk.Next.{Next}
-use Rattle.cycle_place.proofs.Places.{AtPlace, place-entry}
+use Rattle.cycle_place.proofs.Places.{place-entry}
 use Rattle.cycle_lookup.specs.Lookup.{entry_matches, looked_up}
 use Rattle.cycle_lookup.proofs.Passes.{look-reduced, test_below}
 use Rattle.cycle.specs.Record.{record_at, cycle_at, next_entry, is_open, is_next}
 use Rattle.cycle.specs.Calls.{state_of, step_matches, stepped_memory, stepped}
 use Rattle.cycle.specs.declared.Cycle.{Cycle}
-use Rattle.cycle.proofs.CycleRecord.{record-count, record-skip, next-open, next_place}
+use Rattle.cycle.specs.Moves.{Movable}
+use Rattle.cycle.proofs.CycleRecord.{open-phase, record-count, record-skip, next-open, next_place}
 use Rattle.cycle.proofs.Steps.{stepped-sized}
 use Rattle.cycle_steps.specs.Steps.{stepping}
 use Rattle.cycle_steps.specs.Tests.{LookupsLeft, tested_at}
@@ -96,8 +98,12 @@ module _
     own-skip : now.skip ≡ z
     own-skip = ap (λ r. r.skip) h.cycle ∙ record-skip z s now.count
 
-    pub before-end : now.count < cycle_steps z s
+    before-end : now.count < cycle_steps z s
     before-end = ltb-true now.count (cycle_steps z s) (sym (ap (λ r. is_open r.phase) h.cycle ∙ open-below z s t now.count) ∙ open-now)
+
+    -- the record can be moved on
+    pub moves : Movable now
+    moves = record { open-phase = open-phase now.phase open-now; below = omega (arith, before-end, lookups-high z s t) }
 
     -- a test is next
     left : LookupsLeft s 2 now
@@ -117,7 +123,7 @@ module _
 
     -- what is left when it is made
     module _
-        {next : Next} {after : Cycle} {counted flagged totalled held : List ℕ} (follows : next ≡ next_at z s (suc (index_of z s now.place)))
+        {next : Option Place} {after : Cycle} {counted flagged totalled held : List ℕ} (follows : next ≡ next_at z s (suc (index_of z s now.place)))
         (moved : after ≡ record_at now.skip next (suc now.count))
         (looked :
         (mem : Memory)

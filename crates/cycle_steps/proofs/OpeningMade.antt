@@ -1,21 +1,22 @@
 -- An opening among many steps: the state that it leaves, and that the steps from there on are the rest of them. Assumes nothing.
 use mathlib.Core.Path.{◌≡◌, sym, ap, ap₂, subst, ◌∙◌}
 use mathlib.Core.List.{List}
-use Prim.Native.Nat.{ℕ, suc, ◌≤◌, ◌<◌}
+use Prim.Native.Nat.{ℕ, suc, ◌-◌, ◌≤◌, ◌<◌}
 use native.Mathlib.Omega.{arith}
 use lib.ListN.{length}
+use Rattle.std.specs.Prelude.{Option}
 use Rattle.parity.specs.Matrix.{cycle_steps}
 use Rattle.parity.specs.Questions.{Taken}
 use Rattle.parity.specs.declared.Shape.{Shape}
 use Rattle.shape.specs.Answers.{accepted, giving}
-use Rattle.schedule.specs.Schedule.{Entry}
 use Rattle.array_memory.specs.Lengths.{Sized}
-use Rattle.array_memory.specs.Memory.{Memory, with_all, no_memory}
+use Rattle.array_memory.specs.Memory.{Memory, with_all, with_flagged, with_lines, no_memory}
 use Rattle.cycle_place.specs.Places.{next_at}
-use Rattle.cycle_place.specs.declared.walk.Next.{Next}
+use Rattle.cycle_place.specs.declared.Place.{Place}
 use Rattle.cycle_place.proofs.Following.{place-first}
 use Rattle.cycle_place.proofs.Places.{place-entry}
 use Rattle.cycle_lookup.specs.Lookup.{entry_matches, looked_up}
+use Rattle.cycle_lookup.specs.Rows.{opening_of}
 use Rattle.cycle.specs.Calls.{state_of, step_matches, stepped_memory, stepped}
 use Rattle.cycle.specs.Record.{record_at, cycle_at, next_entry}
 use Rattle.cycle.specs.declared.Cycle.{Cycle}
@@ -25,13 +26,17 @@ use Rattle.cycle_steps.specs.Steps.{stepping}
 use Rattle.cycle_steps.specs.Tests.{LookupsLeft}
 use Rattle.cycle_steps.proofs.Stepping.{stepping-next}
 
+-- what `make_opening` and `moved` leave
 module _
-    (s : Shape) (t : Taken s) (cycle : Cycle) {least : ℕ} (left : LookupsLeft s least cycle) (e : Entry) (entry : next_entry s cycle ≡ e)
-    {cells lines counters flags totals looked flagged totalled : List ℕ} (sized : Sized s (with_all cells lines counters flags totals no_memory))
-    (matched : (mem : Memory) → entry_matches s e (with_all cells lines counters flags totals mem) ≡ looked)
-    (opened : (mem : Memory) → looked_up s e (with_all cells lines counters flags totals mem) ≡ with_all cells lines counters flagged totalled mem)
-    {after : Cycle} {next : Next} (follows : next ≡ next_at cycle.skip s (suc cycle.count))
-    (moved : after ≡ record_at cycle.skip next (suc cycle.count))
+    (s : Shape) (t : Taken s) (cycle : Cycle) {least : ℕ} (left : LookupsLeft s least cycle) {byte : ℕ} (here : next_entry s cycle ≡ opening_of s byte)
+    {next : Option Place} (follows : next ≡ next_at cycle.skip s (suc cycle.count)) {cells lines counters flags totals looked flagged totalled : List ℕ}
+    (sized : Sized s (with_all cells lines counters flags totals no_memory))
+    (matched :
+    (s : Shape) → Taken s → (mem : Memory) → Sized s (with_lines lines mem) → entry_matches s (opening_of s byte) (with_lines lines mem) ≡ looked)
+    (opened :
+    (s : Shape) → Taken s → (mem : Memory) → Sized s (with_lines lines (with_flagged flags totals mem))
+    → looked_up s (opening_of s byte) (with_lines lines (with_flagged flags totals mem)) ≡ with_lines lines (with_flagged flagged totalled mem))
+    {after : Cycle} (moved : after ≡ record_at cycle.skip next (suc cycle.count))
   where
     after_is : after ≡ cycle_at cycle.skip s (suc cycle.count)
     unfolding cycle_at
@@ -54,19 +59,22 @@ module _
     pub after-sized : Sized s (with_all cells lines counters flagged totalled no_memory)
     unfolding stepped stepped_memory
     after-sized =
-        subst (Sized s) (ap (λ e. looked_up s e (with_all cells lines counters flags totals no_memory)) entry ∙ opened no_memory)
-        (stepped-sized s (state_of (with_all cells lines counters flags totals no_memory) cycle) sized)
+        let lent : Memory = with_all cells lines counters flags totals no_memory in
+        subst (Sized s) (ap (λ e. looked_up s e lent) here ∙ opened s t lent sized) (stepped-sized s (state_of lent cycle) sized)
 
     pub opening-next :
-        (mem : Memory) (n : ℕ) (bytes : List ℕ) → length bytes ≡ s.rows
-        → stepping s (suc n) (giving (accepted 0) bytes (state_of (with_all cells lines counters flags totals mem) cycle))
-        ≡ stepping s n (giving (accepted 0) looked (state_of (with_all cells lines counters flagged totalled mem) after))
+        (mem : Memory) (most : ℕ) → 0 < most → (bytes : List ℕ) → length bytes ≡ s.rows
+        → stepping s most (giving (accepted 0) bytes (state_of (with_all cells lines counters flags totals mem) cycle))
+        ≡ stepping s (most - 1) (giving (accepted 0) looked (state_of (with_all cells lines counters flagged totalled mem) after))
     unfolding step_matches stepped stepped_memory
-    opening-next mem n bytes l =
+    opening-next mem most some bytes l =
         let lent : Memory = with_all cells lines counters flags totals mem in
-        stepping-next cycle.skip s t left.partial cycle.count (state_of lent cycle) (record { sized = sized; cycle = left.stands }) left.more n
+        let enough : most ≡ suc (most - 1) = omega arith in
+        ap (λ n. stepping s n (giving (accepted 0) bytes (state_of lent cycle))) enough
+        ∙ stepping-next cycle.skip s t left.partial cycle.count (state_of lent cycle) (record { sized = sized; cycle = left.stands }) left.more (most - 1)
         (accepted 0) bytes l
         ∙ ap
-        (λ e. stepping s n (giving (accepted 0) (entry_matches s e lent) (state_of (looked_up s e lent) (cycle_at cycle.skip s (suc cycle.count)))))
-        entry
-        ∙ (λ i. stepping s n (giving (accepted 0) (matched mem i) (state_of (opened mem i) (sym after_is i))))
+        (λ e.
+        stepping s (most - 1) (giving (accepted 0) (entry_matches s e lent) (state_of (looked_up s e lent) (cycle_at cycle.skip s (suc cycle.count)))))
+        here
+        ∙ (λ i. stepping s (most - 1) (giving (accepted 0) (matched s t lent sized i) (state_of (opened s t lent sized i) (sym after_is i))))

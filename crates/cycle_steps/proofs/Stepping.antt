@@ -6,6 +6,7 @@ use Prim.Native.Nat.{ℕ, zero, suc, ◌<◌}
 use lib.Dec.{ltb}
 use lib.ListN.{length}
 use borrow.Author.Tests.{lt-ltb}
+use Rattle.std.specs.Prelude.{Some, None}
 use Rattle.parity.specs.Matrix.{cycle_steps}
 use Rattle.parity.specs.Questions.{first_no, Taken}
 use Rattle.parity.specs.declared.Shape.{Shape}
@@ -17,7 +18,6 @@ use Rattle.schedule.proofs.Length.{schedule-length}
 use Rattle.array_memory.specs.Geometry.{match_bytes}
 use Rattle.array_memory.specs.Lengths.{Sized}
 use Rattle.cycle_place.specs.Places.{place_of, entry_at, next_at}
-use Rattle.cycle_place.specs.declared.walk.Next.TheVariants as nexts
 use Rattle.cycle_lookup.specs.Lookup.{entry_matches}
 use Rattle.cycle.specs.Record.{record_at, cycle_at, is_open, is_next}
 use Rattle.cycle.specs.Calls.{State, step_matches, stepped, step_questions, step_call}
@@ -31,15 +31,11 @@ pub open-below : (z : ℕ) (s : Shape) → Taken s → (c : ℕ) → is_open (cy
 unfolding cycle_at next_at
 open-below z s t c = rw (schedule-length z s t) (go (ltb c (cycle_steps z s)))
   where
-    go : (b : Bool) → is_open (record_at z (cond b (nexts.Place (place_of (entry_at z s c))) nexts.End) c).phase ≡ b
+    go : (b : Bool) → is_open (record_at z (cond b (Some (place_of (entry_at z s c))) None) c).phase ≡ b
     go true = refl
     go false = refl
 
--- where no step is to be made nothing is done ..
-pub stepping-none : (s : Shape) (n : ℕ) (r : Result State) → n ≡ 0 → stepping s n r ≡ r
-stepping-none s n r e = ap (λ n. stepping s n r) e
-
--- .. and where the record is not open
+-- nothing is done where the record is not open
 pub stepping-closed : (s : Shape) (n : ℕ) (r : Result State) → is_open r.state.cycle.phase ≡ false → stepping s n r ≡ r
 stepping-closed s zero r e = refl
 stepping-closed s (suc n) r e = ap (λ b. cond b (stepping s n (step_call s r.state r.bytes)) r) e

@@ -18,7 +18,7 @@ ghost use Rattle.cycle_steps.specs.Steps.{stepping, steps_call};
 ghost use Rattle.cycle_steps.specs.Tests.{LookupsLeft, tested_at, ColumnHeld};
 
 use acam::matrix::{fill_matrix, padded_length};
-use array_questions::memory::check_lent;
+use array_questions::memory::check_step;
 use cycle::calls::{done, refused};
 use cycle::{Changed, Cycle};
 use cycle_lookup::column::count_test;
@@ -27,9 +27,10 @@ use cycle_passes::rows::{match_column, reduce_rows, take_down};
 use cycle_place::Place;
 use cycle_place::digits::{digit_of, hold_digit};
 use cycle_place::factors::scale;
-use cycle_place::walk::{Located, Next, first, follow};
+use cycle_place::walk::{Located, first, follow};
 use parity::Shape;
-use shape::sizes::{Checked, Sizes, check_shape};
+use shape::answer::Refusal;
+use shape::sizes::Sizes;
 
 // The record after some tests, and the place of the last of them.
 #[derive(Clone, Copy)]
@@ -68,8 +69,10 @@ fn count_tests(
     let mut now = cycle;
     let mut last = cycle.place;
     let mut digit = digit_of(shape, last.digit);
-    let mut left = most;
-    while 0 < left && now.is_open() {
+    for _ in 0..most {
+        if !now.is_open() {
+            break;
+        }
         let place = now.place;
         digit = hold_digit(shape, place.digit, digit);
         let here = follow(place, digit.span, skip, shape, checks, matrix);
@@ -92,7 +95,6 @@ fn count_tests(
         );
         last = place;
         now = now.moved(next);
-        left -= 1;
     }
     Tested { cycle: now, last }
 }
@@ -166,7 +168,7 @@ fn make_rest(
     let test = first(shape, matrix);
     make_opening(0, lines, flags, totals, matches);
     make_tests(
-        cycle.moved(Next::Place(test)),
+        cycle.moved(Some(test)),
         most - 1,
         shape,
         checks,
@@ -202,7 +204,7 @@ fn steps_at(
         ≡ changing result matches.new (with_all cells.now lines.now counters.new flags.new totals.new mem) }
 {
     match cycle.locate(shape, checks, columns, padded) {
-        Located::Elsewhere => refused(cycle, 9),
+        Located::Elsewhere => refused(cycle, Refusal::Record),
         Located::Opening(byte, next) => {
             if most == 0 {
                 return done(cycle);
@@ -292,8 +294,7 @@ pub fn steps(
     ensures { (mem : Memory) → steps_call shape (state_of (with_all cells.now lines.now counters.old flags.old totals.old mem) cycle) most matches.old
         ≡ changing result matches.new (with_all cells.now lines.now counters.new flags.new totals.new mem) }
 {
-    match check_lent(
-        check_shape(shape),
+    match check_step(
         shape,
         cells.len(),
         lines.len(),
@@ -302,8 +303,8 @@ pub fn steps(
         totals.len(),
         matches.len(),
     ) {
-        Checked::Refused(number) => refused(cycle, number),
-        Checked::Taken(sizes) => steps_lent(
+        Err(refusal) => refused(cycle, refusal),
+        Ok(sizes) => steps_lent(
             cycle, shape, sizes, most, cells, lines, counters, flags, totals, matches,
         ),
     }

@@ -11,7 +11,7 @@ use job_parse::MAX_CELLS;
 use job_parse::questions::{check_job, shape_of};
 use job_text::print::{put_head, put_refusal, put_rows};
 use run::run_calls;
-use shape::sizes::{Checked, Sizes};
+use shape::sizes::Sizes;
 
 // The totals of the most rows that an array has.
 pub const MAX_TOTALS: usize = Sizes::MAX_ROWS / BLOCK;
@@ -82,8 +82,8 @@ pub fn job(
         return 0;
     }
     match check_job(input) {
-        Checked::Refused(number) => put_refusal(out, number),
-        Checked::Taken(sizes) => {
+        Err(refusal) => put_refusal(out, refusal.number()),
+        Ok(sizes) => {
             let shape = shape_of(input);
             let rows = shape.rows;
             let end = sizes.cells;

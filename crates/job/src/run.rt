@@ -14,7 +14,6 @@ use cycle::{Changed, Cycle};
 use cycle_run::run_cycle;
 use job_parse::questions::two_at;
 use parity::Shape;
-use shape::byte::wide;
 
 // Programs every row with its levels.
 fn program_rows(input: &[u8], shape: Shape, cells: &mut [u8])
@@ -22,15 +21,10 @@ fn program_rows(input: &[u8], shape: Shape, cells: &mut [u8])
     ensures { (mem : Memory) → after_programs input.now shape.rows (state_of (with_cells cells.old mem) idle)
         ≡ state_of (with_cells cells.new mem) idle }
 {
-    let rows = shape.rows;
     let width = shape.width;
-    let mut start: usize = 11;
-    let mut row: usize = 0;
-    while row < rows {
-        let end = start + width;
-        Cycle::IDLE.program(shape, cells, row, &input[start..end]);
-        start = end;
-        row += 1;
+    for row in 0..shape.rows {
+        let start = 11 + row * width;
+        Cycle::IDLE.program(shape, cells, row, &input[start..start + width]);
     }
 }
 
@@ -40,13 +34,16 @@ fn drift_cells(input: &[u8], shape: Shape, cells: &mut [u8])
     ensures { (mem : Memory) → after_drifts input.now (drift_count input.now) (state_of (with_cells cells.old mem) idle)
         ≡ state_of (with_cells cells.new mem) idle }
 {
-    let mut at = 13 + shape.rows * shape.width;
-    while at < input.len() {
+    // two bytes with their number, and then the drifts
+    let start = 13 + shape.rows * shape.width;
+    let count = two_at(input, start - 2);
+    for i in 0..count {
+        let at = start + 4 * i;
         let row = two_at(input, at);
-        let column = wide(input[at + 2]);
+        let column = usize::from(input[at + 2]);
         let level = input[at + 3];
-        drift(shape, cells, row, column, level);
-        at += 4;
+        // no drift of a job that is taken is refused
+        let _ = drift(shape, cells, row, column, level);
     }
 }
 

@@ -57,9 +57,9 @@ module _ (input : List ℕ) where
   unfolding job_refusal
   number n e = says-number (job_questions input) s n e
 
-  pub frame-no : (n : ℕ) → 0 < n → first_no (frame_questions input) ≡ n → Answers (refused no_sizes n)
+  pub frame-no : (n : ℕ) → (first_no (frame_questions input) ≡ n) × (0 < n) → Answers (refused no_sizes n)
   unfolding job_questions
-  frame-no n pos e = number n (first_found (frame_questions input) (shape_questions s ++ after_shape) n pos e, pos)
+  frame-no n e = number n (first_found (frame_questions input) (shape_questions s ++ after_shape) n e.1 e.0, e.1)
 
   module _ (f : first_no (frame_questions input) ≡ 0) where
     shape-first : first_no (job_questions input) ≡ first_no (shape_questions s ++ after_shape)
@@ -73,16 +73,16 @@ module _ (input : List ℕ) where
       contents-first : first_no (job_questions input) ≡ first_no after_shape
       contents-first = shape-first ∙ taken-rest s t after_shape
 
-      pub contents-no : (n : ℕ) → 0 < n → first_no (contents_questions input) ≡ n → Answers (refused no_sizes n)
-      contents-no n pos e = number n (contents-first ∙ first_found (contents_questions input) (drift_questions input) n pos e, pos)
+      pub contents-no : (n : ℕ) → (first_no (contents_questions input) ≡ n) × (0 < n) → Answers (refused no_sizes n)
+      contents-no n e = number n (contents-first ∙ first_found (contents_questions input) (drift_questions input) n e.1 e.0, e.1)
 
       module _ (c : first_no (contents_questions input) ≡ 0) where
         drifts-first : first_no (job_questions input) ≡ first_no (drift_questions input)
         drifts-first = contents-first ∙ first_rest (contents_questions input) (drift_questions input) refl c
 
-        pub drifts-no : (n : ℕ) → 0 < n → first_no (drift_questions input) ≡ n → Answers (refused no_sizes n)
-        drifts-no n pos e = number n (drifts-first ∙ e, pos)
+        pub drifts-no : (n : ℕ) → (first_no (drift_questions input) ≡ n) × (0 < n) → Answers (refused no_sizes n)
+        drifts-no n e = number n (drifts-first ∙ e.0, e.1)
 
         pub none : first_no (drift_questions input) ≡ 0 → (z : Sizes) → z ≡ sizes_of s → Answers (accepted z)
         unfolding job_refusal
-        none e z same = says-sizes (job_questions input) s z (record { none = drifts-first ∙ e; sizes = same })
+        none e z same = says-sizes (job_questions input) s (record { none = drifts-first ∙ e; sizes = same })

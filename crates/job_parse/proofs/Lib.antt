@@ -1,4 +1,3 @@
 -- The laws that the proofs of the functions, here and in the crate above, cite.
-pub mod Sizes
 pub mod Joined
 pub mod JobQuestions

@@ -59,6 +59,9 @@ pub decimal-short : (n : ℕ) → length (decimal n) ≤ 20
 unfolding decimal
 decimal-short n = at_most 20 n
 
+-- how many digits a number has
+pub ruleset digit_counts = (decimal-one, decimal-more-length, decimal-short)
+
 -- the last digits of n, as many as the first argument says
 abbrev pub last_digits : ℕ → ℕ → List ℕ
 last_digits zero n = []

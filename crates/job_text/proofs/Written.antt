@@ -6,9 +6,7 @@ use native.Mathlib.Nat.{le_of_lt, suc-add, add-zero, add-suc, add_assoc}
 use native.Mathlib.Omega.{arith}
 use lib.ListN.{length, get_or, take, drop, set, length-append, take-append-drop}
 use lib.Seq.{length-take-le, take-suc, take_at, drop_at, drop-drop, append_snoc, set_at}
-use borrow.Rule.Slice.PartMut.{mid_of, put_mid, mid_len, Post-is}
-use Rattle.parity.specs.Lists.{filled_from}
-use Rattle.parity.proofs.Filled.{filled_from-whole}
+use borrow.Rule.Slice.PartMut.{put_mid, Post-is}
 use Rattle.job_text.specs.Written.{written, Wrote}
 
 pub written_none : (at : ℕ) (out : List ℕ) → written at [] out ≡ out
@@ -52,18 +50,10 @@ written-front at byte text out h =
       add-suc,
     )
 
--- a text that is copied into the part of its place
-pub written-part :
-    (at : ℕ) (text out : List ℕ) → at + length text ≤ length out
-    → let size = at + length text - at in put_mid at size out (filled_from text (mid_of at size out)) ≡ written at text out
+-- a text in the part of its place
+pub written-part : (at : ℕ) (text out : List ℕ) → at + length text ≤ length out → put_mid at (at + length text - at) out text ≡ written at text out
 unfolding written
-written-part at text out fits =
-    let end = at + length text in
-    rw (
-      filled_from-whole text (mid_of at (end - at) out) (omega (arith, mid_len at end out fits)),
-      Post-is at end out (omega arith),
-      append_assoc,
-    )
+written-part at text out fits = rw (Post-is at (at + length text) out (omega arith), append_assoc)
 
 -- ---- what a function that writes a text gives
 

@@ -1,44 +1,43 @@
 // The text of a job, written into a lent buffer. Each function gives the place after what it wrote.
-ghost use Rattle.std.specs.Prelude.{◌≡◌, ◌++◌, ◌+◌, ◌*◌, ◌≤◌, length};
-ghost use Rattle.job_text.specs.Text.{decimal, refused_text, head_text, row_text, rows_text};
-ghost use Rattle.job_text.specs.Written.{Wrote};
+#![tactic(auto, using(crate::proofs::Decimal::digit_counts))]
 
-use shape::byte::copy;
+ghost use Rattle.std.specs.Prelude.{◌≡◌, cond, eqb, ◌++◌, ◌+◌, ◌*◌, ◌≤◌, length};
+ghost use Rattle.job_text.specs.Text.{decimal, ok_word, flagged_word, refused_text, head_text, row_text, rows_text};
+ghost use Rattle.job_text.specs.Written.{Wrote};
 
 fn put(out: &mut [u8], at: usize, word: &[u8]) -> usize
     requires { at + length word.now ≤ length out.old }
     ensures { Wrote at word.now out.old result out.new }
 {
     let end = at + word.len();
-    copy(word, &mut out[at..end]);
+    out[at..end].copy_from_slice(word);
     end
 }
 
-// How many digits a number has in base ten.
+// How many digits a number has in base ten. No index is counted: what is left of the number ends the loop.
 fn digit_count(number: usize) -> usize
     ensures { result ≡ length (decimal number) }
 {
     let mut rest = number;
     let mut count: usize = 1;
     while 10 <= rest {
-        rest = rest / 10;
+        rest /= 10;
         count += 1;
     }
     count
 }
 
-// A number in base ten, of at most 20 digits, from its last digit to its first.
+// A number in base ten, of at most 20 digits, from its last digit to its first. No `write!`: it wants a writer of ours over the lent
+// bytes, with the laws of `fmt::Write`, and this loop is shorter.
 fn put_number(out: &mut [u8], at: usize, number: usize) -> usize
     requires { at + 20 ≤ length out.old }
     ensures { Wrote at (decimal number) out.old result out.new }
 {
     let count = digit_count(number);
     let mut rest = number;
-    let mut todo = count;
-    while 0 < todo {
-        todo -= 1;
-        out[at + todo] = (48 + rest % 10) as u8;
-        rest = rest / 10;
+    for i in (0..count).rev() {
+        out[at + i] = b'0' + (rest % 10) as u8;
+        rest /= 10;
     }
     at + count
 }
@@ -57,7 +56,7 @@ pub fn put_refusal(out: &mut [u8], number: u8) -> usize
     requires { 40 ≤ length out.old }
     ensures { Wrote 0 (refused_text number) out.old result out.new }
 {
-    let end = put_item(out, 0, b"refused ", number as usize);
+    let end = put_item(out, 0, b"refused ", usize::from(number));
     put(out, end, b"\n")
 }
 
@@ -72,16 +71,20 @@ pub fn put_head(out: &mut [u8], levels: usize, columns: usize, count: usize) -> 
     put(out, third, b"\n")
 }
 
+// The last word of a row's line.
+fn flag_word(flag: u8) -> &'static [u8]
+    ensures { result.now ≡ cond (eqb flag 0) ok_word flagged_word }
+{
+    if flag == 0 { b" ok\n" } else { b" flagged\n" }
+}
+
 // The line of a row.
 fn put_row(out: &mut [u8], at: usize, row: usize, flag: u8) -> usize
     requires { at + 40 ≤ length out.old }
     ensures { Wrote at (row_text row flag) out.old result out.new }
 {
     let end = put_item(out, at, b"row ", row);
-    if flag == 0 {
-        return put(out, end, b" ok\n");
-    }
-    put(out, end, b" flagged\n")
+    put(out, end, flag_word(flag))
 }
 
 // One line for each row.
@@ -90,10 +93,8 @@ pub fn put_rows(out: &mut [u8], at: usize, flags: &[u8]) -> usize
     ensures { Wrote at (rows_text (length flags.now) flags.now) out.old result out.new }
 {
     let mut end = at;
-    let mut row: usize = 0;
-    while row < flags.len() {
+    for row in 0..flags.len() {
         end = put_row(out, end, row, flags[row]);
-        row += 1;
     }
     end
 }

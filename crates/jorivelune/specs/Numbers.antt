@@ -22,7 +22,7 @@ found_says m said = record { taken = said.taken; number = said.number; value = c
 -- six numbers, in the order in which they are told
 abbrev pub measured : ℕ → ℕ → ℕ → ℕ → ℕ → ℕ → CycleSizes
 measured levels checks columns cells blocks steps =
-    record { levels = levels; checks = checks; columns = columns; cells = cells; blocks = blocks; steps = steps }
+    record { sizes = record { levels = levels; checks = checks; columns = columns; cells = cells }; blocks = blocks; steps = steps }
 
 -- ---- the panel
 

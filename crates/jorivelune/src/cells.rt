@@ -1,6 +1,6 @@
 // The calls without the record: on cells and lines. A refused call leaves every buffer as it was.
 ghost use Rattle.std.specs.Prelude.{◌≡◌, []};
-ghost use Rattle.shape.specs.Answers.{answer_says, outcome_says, giving};
+ghost use Rattle.shape.specs.Answers.{says, outcome_says, giving};
 ghost use Rattle.array_memory.specs.Memory.{Memory, with_array, with_cells, with_lines};
 ghost use Rattle.array.specs.Calls.{ask_call, drift_call, line_call, read_call, sound_call};
 ghost use Rattle.array_lookup.specs.Lookups.{lookup_call, first_call};
@@ -13,30 +13,30 @@ use array::lines::set_line;
 use array_lookup::first::first_match;
 use array_lookup::task::lookup;
 use parity::Shape;
-use shape::answer::{Answer, First, Outcome, Verdict};
+use shape::answer::Answer;
 
-fn number_of(outcome: Outcome) -> u8
+fn number_of(outcome: Answer<()>) -> u8
     ensures { result ≡ (outcome_says outcome).number }
 {
     match outcome {
-        Outcome::Done => 0,
-        Outcome::Refused(number) => number,
+        Ok(()) => 0,
+        Err(refusal) => refusal.number(),
     }
 }
 
-// The number of an answer, whose value goes behind the pointer: 0 where the call is refused.
-fn tell(answer: Answer, value: &mut usize) -> u8
-    ensures numbered { result ≡ (answer_says answer).number }
-    ensures valued { value.new ≡ (answer_says answer).value }
+// The number of an answer, whose value goes behind the pointer: where the call is refused, what stands for none.
+pub(crate) fn tell<T: Copy>(answer: Answer<T>, nothing: T, value: &mut T) -> u8
+    ensures numbered { result ≡ (says nothing (λ told. told) answer).number }
+    ensures valued { value.new ≡ (says nothing (λ told. told) answer).value }
 {
     match answer {
-        Answer::Is(number) => {
-            *value = number;
+        Ok(told) => {
+            *value = told;
             0
         }
-        Answer::Refused(number) => {
-            *value = 0;
-            number
+        Err(refusal) => {
+            *value = nothing;
+            refusal.number()
         }
     }
 }
@@ -78,7 +78,7 @@ pub fn jorivelune_ask(
     ensures { (mem : Memory) → ask_call shape (with_cells cells.now mem) row levels.now finished.old
         ≡ giving (telling result changed.new) finished.new (with_cells cells.now mem) }
 {
-    tell(ask(shape, cells, row, levels, finished), changed)
+    tell(ask(shape, cells, row, levels, finished), 0, changed)
 }
 
 // Task lookup, by inputs of 16 bits, since they run to q: one match byte per row; the number of matches goes to `count`, 0 where
@@ -94,7 +94,7 @@ pub fn jorivelune_lookup(
     ensures { (mem : Memory) → lookup_call shape (with_array cells.now lines.now mem) inputs.now matches.old
         ≡ giving (telling result count.new) matches.new (with_array cells.now lines.now mem) }
 {
-    tell(lookup(shape, cells, lines, inputs, matches), count)
+    tell(lookup(shape, cells, lines, inputs, matches), 0, count)
 }
 
 // First match, by inputs as in a task lookup: the first matching row goes to `found`, m where there is none, 0 where the call is
@@ -110,17 +110,17 @@ pub fn jorivelune_first_match(
         ≡ telling result found.new }
 {
     match first_match(shape, cells, lines, inputs) {
-        First::Row(row) => {
+        Ok(Some(row)) => {
             *found = row;
             0
         }
-        First::Nothing => {
+        Ok(None) => {
             *found = shape.rows;
             0
         }
-        First::Refused(number) => {
+        Err(refusal) => {
             *found = 0;
-            number
+            refusal.number()
         }
     }
 }
@@ -129,18 +129,5 @@ pub fn jorivelune_first_match(
 pub fn jorivelune_sound(shape: Shape, cells: &[u8], row: usize, holds: &mut bool) -> u8
     ensures { (mem : Memory) → sound_call shape (with_cells cells.now mem) row ≡ telling result holds.new }
 {
-    match sound(shape, cells, row) {
-        Verdict::Yes => {
-            *holds = true;
-            0
-        }
-        Verdict::No => {
-            *holds = false;
-            0
-        }
-        Verdict::Refused(number) => {
-            *holds = false;
-            number
-        }
-    }
+    tell(sound(shape, cells, row), false, holds)
 }

@@ -8,9 +8,9 @@ ghost use Rattle.router.specs.Routes.{route_call};
 ghost use Rattle.jorivelune.specs.Numbers.{telling};
 ghost use Rattle.jorivelune.specs.Routes.{stored_router, on_router, sent, sent_says};
 
+use super::cells::tell;
 use parity::Shape;
 use record_words::{cycle_of, store};
-use router::answer::{Belt, Routed};
 use router::read::rule_at;
 use router::route::route;
 use router::rule::rule;
@@ -52,20 +52,20 @@ pub fn jorivelune_route(
         ≡ telling result (sent found.new belt.new) }
 {
     match route(shape, cells, lines, belts, values) {
-        Routed::To(row, byte) => {
-            *found = row;
-            *belt = byte;
+        Ok(Some(sent)) => {
+            *found = sent.row;
+            *belt = sent.belt;
             0
         }
-        Routed::Nothing => {
+        Ok(None) => {
             *found = shape.rows;
             *belt = 0;
             0
         }
-        Routed::Refused(number) => {
+        Err(refusal) => {
             *found = 0;
             *belt = 0;
-            number
+            refusal.number()
         }
     }
 }
@@ -83,14 +83,5 @@ pub fn jorivelune_rule_at(
     ensures { (mem : Memory) → rule_at_call shape (with_cells cells.now mem) belts.now row (ranges_of lows.old highs.old)
         ≡ giving (telling result belt.new) [] (ranges_of lows.new highs.new) }
 {
-    match rule_at(shape, cells, belts, row, lows, highs) {
-        Belt::Is(byte) => {
-            *belt = byte;
-            0
-        }
-        Belt::Refused(number) => {
-            *belt = 0;
-            number
-        }
-    }
+    tell(rule_at(shape, cells, belts, row, lows, highs), 0, belt)
 }

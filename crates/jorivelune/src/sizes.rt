@@ -3,7 +3,7 @@ ghost use Rattle.std.specs.Prelude.{◌≡◌};
 ghost use Rattle.cycle_sizes.specs.Sizes.{sizes_call};
 ghost use Rattle.jorivelune.specs.Numbers.{telling, measured};
 
-use cycle_sizes::{CycleSized, sizes};
+use cycle_sizes::sizes;
 use parity::Shape;
 
 // Sizes: q, r, n, m × n, the blocks of rows, and the steps of a cycle that skips so many low digits; all six are 0 where the call
@@ -22,23 +22,23 @@ pub fn jorivelune_sizes(
         ≡ telling result (measured levels.new checks.new columns.new cells.new blocks.new steps.new) }
 {
     match sizes(shape, skip) {
-        CycleSized::Taken(told) => {
-            *levels = told.levels;
-            *checks = told.checks;
-            *columns = told.columns;
-            *cells = told.cells;
+        Ok(told) => {
+            *levels = told.sizes.levels;
+            *checks = told.sizes.checks;
+            *columns = told.sizes.columns;
+            *cells = told.sizes.cells;
             *blocks = told.blocks;
             *steps = told.steps;
             0
         }
-        CycleSized::Refused(number) => {
+        Err(refusal) => {
             *levels = 0;
             *checks = 0;
             *columns = 0;
             *cells = 0;
             *blocks = 0;
             *steps = 0;
-            number
+            refusal.number()
         }
     }
 }

@@ -6,7 +6,6 @@ ghost use Rattle.jorivelune.specs.Numbers.{telling, shown, reading_says};
 
 use panel::panel;
 use parity::Shape;
-use shape::answer::First;
 
 // Panel: the sum of the totals goes to `total`, the first flagged row to `first`, m where there is none, and the number of
 // flags that were read to `read`; all three are 0 where the call is refused.
@@ -21,22 +20,18 @@ pub fn jorivelune_panel(
     ensures { (mem : Memory) → reading_says shape.rows (panel_call shape (with_flagged flags.now totals.now mem))
         ≡ telling result (shown total.new first.new read.new) }
 {
-    let told = panel(shape, flags, totals);
-    let found = told.first;
-    *total = told.total;
-    *read = told.read;
-    match found {
-        First::Row(row) => {
-            *first = row;
+    match panel(shape, flags, totals) {
+        Ok(told) => {
+            *total = told.total;
+            *first = told.first.unwrap_or(shape.rows);
+            *read = told.read;
             0
         }
-        First::Nothing => {
-            *first = shape.rows;
-            0
-        }
-        First::Refused(number) => {
+        Err(refusal) => {
+            *total = 0;
             *first = 0;
-            number
+            *read = 0;
+            refusal.number()
         }
     }
 }

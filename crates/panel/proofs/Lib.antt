@@ -1,5 +1,4 @@
--- Searches through bytes, and the proofs of the claims on totals and panel.
-pub mod Searches
+-- First flags, readings, and the proofs of the claims on totals and panel.
 pub mod Readings
 pub mod FirstFlags
 pub mod TotalsKept

@@ -4,25 +4,27 @@
 
 pub mod questions;
 
-ghost use Rattle.std.specs.Prelude.{◌≡◌, [], ◌∷◌, ◌≤◌, length};
+ghost use Rattle.std.specs.Prelude.{◌≡◌, [], ◌∷◌, ◌≤◌, length, position};
+ghost use Rattle.shape.specs.Answers.{accepted};
 ghost use Rattle.shape.specs.Shapes.{Passed};
+ghost use Rattle.array_memory.specs.Blocks.{is_flagged};
 ghost use Rattle.array_memory.specs.Memory.{Memory, with_flagged};
 ghost use Rattle.panel.specs.Panel.{panel_questions, panel_call};
-ghost use Rattle.panel.specs.Answers.{panel_says};
-ghost use Rattle.panel.specs.Reads.{summed, searched};
+ghost use Rattle.panel.specs.Answers.{summary_says, panel_says};
+ghost use Rattle.panel.specs.Reads.{summed};
 
 use array_memory::blocks::{BLOCK, block_end};
 use parity::Shape;
 use questions::check_panel;
-use shape::answer::First;
-use shape::byte::wide;
-use shape::sizes::{Checked, Sizes};
+use shape::answer::Answer;
+use shape::sizes::Sizes;
 
-// The panel's answer. A refused call's row says so, and its numbers are 0.
+// The panel's answer.
 #[derive(Clone, Copy)]
 pub struct Summary {
     pub total: usize,
-    pub first: First,
+    // the first flagged row
+    pub first: Option<usize>,
     // how many flags were read
     pub read: usize,
 }
@@ -34,13 +36,6 @@ struct Totals {
     block: usize,
 }
 
-// How a search through a block's flags ended: at one that isn't 0, or at the block's end; and how many of them were read.
-#[derive(Clone, Copy)]
-struct Search {
-    found: bool,
-    read: usize,
-}
-
 // Reads each total once.
 fn sum_totals(totals: &[u8]) -> Totals
     requires { length totals.now ≤ 64 }
@@ -48,76 +43,58 @@ fn sum_totals(totals: &[u8]) -> Totals
 {
     let mut sum: usize = 0;
     let mut block: usize = 0;
-    let mut i: usize = 0;
-    while i < totals.len() {
-        sum += wide(totals[i]);
+    for &total in totals {
+        sum += usize::from(total);
         // as long as the sum is 0, so is every total
         if sum == 0 {
             block += 1;
         }
-        i += 1;
     }
     Totals { sum, block }
 }
 
-// Reads flags up to the first that isn't 0, and counts each as it is read.
-fn search_block(flags: &[u8]) -> Search
-    ensures { result ≡ searched flags.now }
+// The place of the first flag that isn't 0, which is the last that is read.
+fn search_block(flags: &[u8]) -> Option<usize>
+    ensures { result ≡ position is_flagged flags.now }
 {
-    let mut read: usize = 0;
-    while read < flags.len() {
-        let flag = flags[read];
-        read += 1;
-        if flag != 0 {
-            return Search { found: true, read };
-        }
-    }
-    Search { found: false, read }
+    flags.iter().position(|flag| *flag != 0)
 }
 
 // A panel call whose questions have been passed. Only the first block whose total isn't 0 is lent to the search.
 pub fn panel_lent(shape: Shape, sizes: Sizes, flags: &[u8], totals: &[u8]) -> Summary
     requires { Passed (panel_questions shape (length flags.now ∷ length totals.now ∷ [])) shape sizes }
-    ensures { (mem : Memory) → panel_call shape (with_flagged flags.now totals.now mem) ≡ panel_says result }
+    ensures { (mem : Memory) → panel_call shape (with_flagged flags.now totals.now mem) ≡ accepted (summary_says result) }
 {
     let all = sum_totals(totals);
     let total = all.sum;
     if totals.len() <= all.block {
         return Summary {
             total,
-            first: First::Nothing,
+            first: None,
             read: 0,
         };
     }
     let start = all.block * BLOCK;
     let end = block_end(start, flags.len());
-    let search = search_block(&flags[start..end]);
-    let read = search.read;
-    if !search.found {
-        return Summary {
+    let block = &flags[start..end];
+    match search_block(block) {
+        None => Summary {
             total,
-            first: First::Nothing,
-            read,
-        };
-    }
-    let row = start + read - 1;
-    Summary {
-        total,
-        first: First::Row(row),
-        read,
+            first: None,
+            read: block.len(),
+        },
+        Some(place) => Summary {
+            total,
+            first: Some(start + place),
+            read: place + 1,
+        },
     }
 }
 
 // The panel call: the grand total, the first flagged row or none, and how many flags were read.
-pub fn panel(shape: Shape, flags: &[u8], totals: &[u8]) -> Summary
+pub fn panel(shape: Shape, flags: &[u8], totals: &[u8]) -> Answer<Summary>
     ensures { (mem : Memory) → panel_call shape (with_flagged flags.now totals.now mem) ≡ panel_says result }
 {
-    match check_panel(shape, flags.len(), totals.len()) {
-        Checked::Refused(number) => Summary {
-            total: 0,
-            first: First::Refused(number),
-            read: 0,
-        },
-        Checked::Taken(sizes) => panel_lent(shape, sizes, flags, totals),
-    }
+    let sizes = check_panel(shape, flags.len(), totals.len())?;
+    Ok(panel_lent(shape, sizes, flags, totals))
 }

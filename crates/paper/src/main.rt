@@ -8,7 +8,7 @@ use cycle::Cycle;
 use cycle_run::run_cycle;
 use cycle_sizes::count_ones;
 use parity::Shape;
-use shape::sizes::{Checked, check_shape};
+use shape::sizes::check_shape;
 use std::io;
 
 fn example(radix: usize, digits: usize, errors: usize, width: usize, rows: usize) -> Shape {
@@ -62,72 +62,64 @@ fn end_line(rt: &impl Print) -> io::Result<()> {
 
 // The naive way reads the thresholds of all m × k cells.
 fn naive_reads(rt: &impl Print, shape: Shape) -> io::Result<()> {
-    match check_shape(shape) {
-        Checked::Refused(_) => Ok(()),
-        Checked::Taken(_) => {
-            put(rt, "naive reads ", shape.rows * shape.width)?;
-            end_line(rt)
-        }
-    }
+    let Ok(_) = check_shape(shape) else {
+        return Ok(());
+    };
+    put(rt, "naive reads ", shape.rows * shape.width)?;
+    end_line(rt)
 }
 
 // One row of Table I.
 fn table_row(rt: &impl Print, errors: usize) -> io::Result<()> {
     let eight = example(2, 3, errors, 50, 1);
-    match check_shape(eight) {
-        Checked::Refused(_) => Ok(()),
-        Checked::Taken(sizes) => {
-            let checks = sizes.checks;
-            let columns = sizes.columns;
-            let matrix = matrix_of(eight, checks);
-            put(rt, "tau ", errors)?;
-            put(rt, " r ", checks)?;
-            put(rt, " n ", columns)?;
-            put(rt, " ones ", count_ones(&matrix))?;
-            put(rt, " q8 ", lookups_made(eight, columns))?;
-            put(
-                rt,
-                " q16 ",
-                lookups_made(example(2, 4, errors, 50, 1), columns),
-            )?;
-            end_line(rt)
-        }
-    }
+    let Ok(sizes) = check_shape(eight) else {
+        return Ok(());
+    };
+    let checks = sizes.checks;
+    let columns = sizes.columns;
+    let matrix = matrix_of(eight, checks);
+    put(rt, "tau ", errors)?;
+    put(rt, " r ", checks)?;
+    put(rt, " n ", columns)?;
+    put(rt, " ones ", count_ones(&matrix))?;
+    put(rt, " q8 ", lookups_made(eight, columns))?;
+    put(
+        rt,
+        " q16 ",
+        lookups_made(example(2, 4, errors, 50, 1), columns),
+    )?;
+    end_line(rt)
 }
 
 // The lookups of that row where q is the radix and there is one digit: the figures of Table I apply also to this case, the paper
 // says.
 fn whole_levels(rt: &impl Print, errors: usize) -> io::Result<()> {
     let eight = example(8, 1, errors, 50, 1);
-    match check_shape(eight) {
-        Checked::Refused(_) => Ok(()),
-        Checked::Taken(sizes) => {
-            let columns = sizes.columns;
-            put(rt, "b 1 tau ", errors)?;
-            put(rt, " q8 ", lookups_made(eight, columns))?;
-            put(
-                rt,
-                " q16 ",
-                lookups_made(example(16, 1, errors, 50, 1), columns),
-            )?;
-            end_line(rt)
-        }
-    }
+    let Ok(sizes) = check_shape(eight) else {
+        return Ok(());
+    };
+    let columns = sizes.columns;
+    put(rt, "b 1 tau ", errors)?;
+    put(rt, " q8 ", lookups_made(eight, columns))?;
+    put(
+        rt,
+        " q16 ",
+        lookups_made(example(16, 1, errors, 50, 1), columns),
+    )?;
+    end_line(rt)
 }
 
 // The ones of 50 rule columns and r check columns, each of which has one, by the least shape that has r of them.
 fn wider(rt: &impl Print, width: usize) -> io::Result<()> {
     let shape = example(2, 3, 2, width, 1);
-    match check_shape(shape) {
-        Checked::Refused(_) => Ok(()),
-        Checked::Taken(sizes) => {
-            let checks = sizes.checks;
-            let matrix = matrix_of(shape, checks);
-            put(rt, "tau 2 r ", checks)?;
-            put(rt, " ones ", count_ones(&matrix[..50]) + checks)?;
-            end_line(rt)
-        }
-    }
+    let Ok(sizes) = check_shape(shape) else {
+        return Ok(());
+    };
+    let checks = sizes.checks;
+    let matrix = matrix_of(shape, checks);
+    put(rt, "tau 2 r ", checks)?;
+    put(rt, " ones ", count_ones(&matrix[..50]) + checks)?;
+    end_line(rt)
 }
 
 fn main(rt: HostRuntime) -> io::Result<()> {

@@ -3,36 +3,16 @@
 use mathlib.Core.Path.{◌≡◌, refl, sym, ap, ap₂, ◌∙◌}
 use mathlib.Core.Bool.{Bool, true, false, ◌&&◌, and-eq-true_iff, and_assoc, and-false, false≢true}
 use mathlib.Core.List.{List, [], ◌∷◌, ◌++◌}
-use Prim.Native.Nat.{ℕ, suc, ◌+◌, ◌<◌}
-use native.Mathlib.Numerals.{add-one}
+use Prim.Native.Nat.{ℕ, suc}
 use native.Mathlib.Omega.{arith}
 use lib.Dec.{eqb}
-use lib.ListN.{length, get_or, drop}
-use lib.Seq.{drop-cons, drop-length}
+use lib.ListN.{length, drop}
 use borrow.Author.Tests.{eqb-true, eq-eqb}
 use Rattle.parity.specs.Lists.{alongside}
-
--- ---- a loop through two lists of one length: what is left of the test gives the whole test's answer
 
 -- the test from place j on
 abbrev pub alongside_from : (ℕ → ℕ → Bool) → List ℕ → List ℕ → ℕ → Bool
 alongside_from p xs ys j = alongside p (drop j xs) (drop j ys)
-
-module _ (p : ℕ → ℕ → Bool) (xs ys : List ℕ) (same : length xs ≡ length ys) where
-  pub alongside-next : (j : ℕ) → j < length xs → alongside_from p xs ys j ≡ p (get_or xs j 0) (get_or ys j 0) && alongside_from p xs ys (j + 1)
-  alongside-next j h =
-      ap₂ (alongside p) (drop-cons xs j 0 h) (drop-cons ys j 0 (omega arith))
-      ∙ ap (λ i. p (get_or xs j 0) (get_or ys j 0) && alongside_from p xs ys i) (sym (add-one j))
-
-  pub alongside-fails : (j : ℕ) → j < length xs → p (get_or xs j 0) (get_or ys j 0) ≡ false → alongside_from p xs ys j ≡ false
-  alongside-fails j h e = alongside-next j h ∙ ap (λ t. t && alongside_from p xs ys (j + 1)) e
-
-  pub alongside-passes :
-      (j : ℕ) → j < length xs → p (get_or xs j 0) (get_or ys j 0) ≡ true → alongside_from p xs ys j ≡ alongside_from p xs ys (j + 1)
-  alongside-passes j h e = alongside-next j h ∙ ap (λ t. t && alongside_from p xs ys (j + 1)) e
-
-  pub alongside-ended : alongside_from p xs ys (length xs) ≡ true
-  alongside-ended = ap₂ (alongside p) (drop-length xs) (ap (λ n. drop n ys) same ∙ drop-length ys)
 
 -- lists of other lengths never stand alongside
 pub alongside-lengths : (p : ℕ → ℕ → Bool) (xs ys : List ℕ) → (length xs ≡ length ys → ⊥) → alongside p xs ys ≡ false

@@ -80,11 +80,6 @@ pub line_dead : (line said : ℕ) → line ≢ 0 → line ≢ 2 → line_gives l
 unfolding line_gives
 line_dead line said h k = ap₂ (λ a b. cond a said (cond b 1 0)) (ne_eqb line 0 h) (ne_eqb line 2 k)
 
--- but for a sound line it does not matter what the cells say
-pub line-apart : (line said other : ℕ) → line ≢ 0 → line_gives line said ≡ line_gives line other
-unfolding line_gives
-line-apart line said other h = rw (ne_eqb line 0 h) refl
-
 pub line-high : (line said : ℕ) → said ≤ 1 → line_gives line said ≤ 1
 unfolding line_gives
 line-high line said h = go (eqb line 0) (eqb line 2)

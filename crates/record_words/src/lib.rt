@@ -4,12 +4,12 @@
 
 ghost use Rattle.std.specs.Prelude.{◌≡◌};
 ghost use Rattle.shape.specs.Answers.{outcome_says};
-ghost use Rattle.record_words.specs.Words.{phase_of, phase_word, cycle_of, words_of, words_after};
+ghost use Rattle.record_words.specs.Words.{phase_of, cycle_of, words_of, words_after};
 
 use cycle::{Changed, Cycle, Phase};
 use cycle_place::Place;
-use shape::answer::Outcome;
 
+// Functions, and no `From`: record and phase are types of the crate `cycle`, which knows no words, and an array is one of std.
 fn phase_of(word: usize) -> Phase
     ensures { result ≡ phase_of word }
 {
@@ -17,16 +17,6 @@ fn phase_of(word: usize) -> Phase
         1 => Phase::Open,
         2 => Phase::Complete,
         _ => Phase::Idle,
-    }
-}
-
-fn phase_word(phase: Phase) -> usize
-    ensures { result ≡ phase_word phase }
-{
-    match phase {
-        Phase::Idle => 0,
-        Phase::Open => 1,
-        Phase::Complete => 2,
     }
 }
 
@@ -49,10 +39,9 @@ pub fn cycle_of(words: &[usize; 7]) -> Cycle
 fn words_of(cycle: Cycle) -> [usize; 7]
     ensures { result ≡ words_of cycle }
 {
-    let phase = cycle.phase;
     let place = cycle.place;
     [
-        phase_word(phase),
+        cycle.phase as usize,
         place.check,
         place.digit,
         place.column,
@@ -67,12 +56,10 @@ pub fn store(words: &mut [usize; 7], changed: Changed) -> u8
     ensures answered { result ≡ (outcome_says changed.outcome).number }
     ensures recorded { words.new ≡ words_after (outcome_says changed.outcome) changed.cycle words.old }
 {
-    let outcome = changed.outcome;
-    let cycle = changed.cycle;
-    match outcome {
-        Outcome::Refused(number) => number,
-        Outcome::Done => {
-            *words = words_of(cycle);
+    match changed.outcome {
+        Err(refusal) => refusal.number(),
+        Ok(()) => {
+            *words = words_of(changed.cycle);
             0
         }
     }

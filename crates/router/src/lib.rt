@@ -3,7 +3,6 @@
 // (`.._lent`): what the call does where its questions have been passed.
 #![tactic(auto)]
 
-pub mod answer;
 pub mod pairs;
 pub mod read;
 pub mod route;

@@ -9,22 +9,10 @@ pub(crate) fn pair(top: u8, xs: &[u8], ys: &[u8], to: &mut [u8])
     requires { PairsLent top xs.now ys.now (length to.old) }
     ensures { to.new ≡ paired top xs.now ys.now }
 {
-    let mut i: usize = 0;
-    while i < xs.len() {
+    for i in 0..xs.len() {
         to[i + i] = xs[i];
         to[i + i + 1] = top - ys[i];
-        i += 1;
     }
-}
-
-// What a byte leaves of the top level: 0 where it is above.
-fn complement(top: u8, byte: u8) -> u8
-    ensures { result ≡ top - byte }
-{
-    if top < byte {
-        return 0;
-    }
-    top - byte
 }
 
 // Takes pairs apart again, as many as the buffers hold: the highs as they stand, and of the lows what is left of the top level.
@@ -33,10 +21,8 @@ pub(crate) fn unpair(top: u8, pairs: &[u8], lows: &mut [u8], highs: &mut [u8])
     ensures low { lows.new ≡ tabulate (length lows.old) (λ i. top - get_or pairs.now (suc (2 * i)) 0) }
     ensures high { highs.new ≡ tabulate (length lows.old) (λ i. get_or pairs.now (2 * i) 0) }
 {
-    let mut i: usize = 0;
-    while i < lows.len() {
+    for i in 0..lows.len() {
         highs[i] = pairs[i + i];
-        lows[i] = complement(top, pairs[i + i + 1]);
-        i += 1;
+        lows[i] = top.saturating_sub(pairs[i + i + 1]);
     }
 }

@@ -8,11 +8,11 @@ ghost use Rattle.router_questions.specs.Questions.{rule_at_questions};
 ghost use Rattle.router.specs.Calls.{rule_at_call};
 ghost use Rattle.router.specs.Answers.{belt_says};
 
-use super::answer::Belt;
 use super::pairs::unpair;
 use parity::Shape;
 use router_questions::check_rule_at;
-use shape::sizes::{Checked, Sizes};
+use shape::answer::Answer;
+use shape::sizes::Sizes;
 
 // A reading whose questions have been passed: the ranges go to the buffers, and the belt is the answer.
 pub fn rule_at_lent(
@@ -44,21 +44,17 @@ pub fn rule_at(
     row: usize,
     lows: &mut [u8],
     highs: &mut [u8],
-) -> Belt
+) -> Answer<u8>
     ensures { (mem : Memory) → rule_at_call shape (with_cells cells.now mem) belts.now row (ranges_of lows.old highs.old)
         ≡ giving (belt_says result) [] (ranges_of lows.new highs.new) }
 {
-    match check_rule_at(
+    let sizes = check_rule_at(
         shape,
         cells.len(),
         belts.len(),
         row,
         lows.len(),
         highs.len(),
-    ) {
-        Checked::Refused(number) => Belt::Refused(number),
-        Checked::Taken(sizes) => {
-            Belt::Is(rule_at_lent(shape, sizes, cells, belts, row, lows, highs))
-        }
-    }
+    )?;
+    Ok(rule_at_lent(shape, sizes, cells, belts, row, lows, highs))
 }

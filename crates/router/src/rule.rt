@@ -17,9 +17,10 @@ use cycle::calls::{done, refused};
 use cycle::{Changed, Cycle};
 use parity::Shape;
 use router_questions::check_rule;
-use shape::sizes::{Checked, Sizes};
+use shape::sizes::Sizes;
 
-// A rule whose questions have been passed: its levels are made in an array of the call's own, and the row is written from them.
+// A rule whose questions have been passed: its levels are made in an array of the call's own, of fixed length since there is no
+// heap, and the row is written from them.
 pub fn rule_lent(
     shape: Shape,
     sizes: Sizes,
@@ -59,8 +60,8 @@ pub fn rule(
         ≡ with_belts belts.new (changing result [] (with_cells cells.new mem)) }
 {
     match check_rule(shape, cells.len(), belts.len(), row, lows, highs) {
-        Checked::Refused(number) => refused(cycle, number),
-        Checked::Taken(sizes) => {
+        Err(refusal) => refused(cycle, refusal),
+        Ok(sizes) => {
             rule_lent(shape, sizes, cells, belts, row, lows, highs, belt);
             done(Cycle::IDLE)
         }

@@ -2,48 +2,27 @@
 // standard error, and the exit status is 0 then too.
 #![tactic(auto)]
 
-ghost use Rattle.std.specs.Prelude.{◌≤◌, length};
+ghost use Rattle.std.specs.Prelude.{◌≤◌, length, IfOk};
 
 use job::{MAX_TEXT, MAX_TOTALS};
 use job_parse::{MAX_BYTES, MAX_CELLS};
 use shape::sizes::Sizes;
-use std::io::{Read, Write};
+use std::io::{self, Read, Write};
 
-// How reading ended: how many bytes came, and whether a read failed.
-#[derive(Clone, Copy)]
-struct Reading {
-    bytes: usize,
-    failed: bool,
-}
-
-// Reads until the buffer is full or the input ends. A read that fails is told, since it is no end of the input.
-fn read_input<R: Read>(from: &mut R, input: &mut [u8]) -> Reading
-    ensures { result.bytes ≤ length input.new }
+// Reads until the buffer is full or the input ends: how many bytes came. No `for`, since each read gives as many as it
+// will. A read that fails is an error, since it is no end of the input.
+fn read_input<R: Read>(from: &mut R, input: &mut [u8]) -> io::Result<usize>
+    ensures { IfOk result (λ bytes. bytes ≤ length input.new) }
 {
     let mut bytes: usize = 0;
     while bytes < input.len() {
-        match from.read(&mut input[bytes..]) {
-            Err(_) => {
-                return Reading {
-                    bytes,
-                    failed: true,
-                };
-            }
-            Ok(more) => {
-                if more == 0 {
-                    return Reading {
-                        bytes,
-                        failed: false,
-                    };
-                }
-                bytes += more;
-            }
+        let more = from.read(&mut input[bytes..])?;
+        if more == 0 {
+            break;
         }
+        bytes += more;
     }
-    Reading {
-        bytes,
-        failed: false,
-    }
+    Ok(bytes)
 }
 
 // Says on standard error what failed. Where that fails too, there is nobody left to tell.
@@ -85,10 +64,8 @@ fn run(rt: &HostRuntime, input: &[u8]) {
 fn main(rt: HostRuntime) {
     // one byte past the limit is enough to know that a job is too long
     let mut input = [0u8; MAX_BYTES + 1];
-    let reading = read_input(&mut rt.stdin(), &mut input);
-    if reading.failed {
-        say(&rt, "the job cannot be read");
-        return;
+    match read_input(&mut rt.stdin(), &mut input) {
+        Ok(bytes) => run(&rt, &input[..bytes]),
+        Err(_) => say(&rt, "the job cannot be read"),
     }
-    run(&rt, &input[..reading.bytes]);
 }

@@ -5,8 +5,13 @@ use mathlib.Core.Bool.{true, true≢false}
 use mathlib.Core.List.{List}
 use Prim.Native.Nat.{ℕ, zero, suc, ◌<◌}
 use native.Mathlib.Omega.{arith}
+use Rattle.std.specs.Prelude.{IsErrAnd}
+use Rattle.std.specs.declared.result.Result.{Result as Answer}
 use Rattle.parity.specs.Questions.{Question, first_no, if_taken}
-use Rattle.shape.specs.Answers.{Result, refused, giving, calling}
+use Rattle.shape.specs.declared.answer.Refusal.{Refusal}
+use Rattle.shape.specs.Refusals.{number_of}
+use Rattle.shape.specs.Answers.{Result, refused, giving, calling, says}
+use Rattle.shape.proofs.Refusals.{handed}
 
 -- of two things the one for a no
 pub if_no : {A : Type 0} (n : ℕ) → 0 < n → (new old : A) → if_taken n new old ≡ old
@@ -23,6 +28,13 @@ module _ {S : Type 0} (questions : List Question) (bytes : List ℕ) (state : S)
   unfolding calling
   call-refused n fails =
       ap (λ n. if_taken n done (giving (refused 0 n) bytes state)) fails.0 ∙ if_no n fails.1 done (giving (refused 0 n) bytes state)
+
+  -- .. where the refusal is handed on
+  pub call-handed :
+      {A : Type 0} (value : A → ℕ) (answer : Answer A Refusal) (told : Refusal) → (first_no questions ≡ number_of told) × (0 < number_of told)
+      → IsErrAnd answer (λ y. y ≡ told) → calling questions bytes state done ≡ giving (says 0 value answer) bytes state
+  call-handed value answer told found on =
+      call-refused (number_of told) found ∙ sym (ap (λ said. giving said bytes state) (handed 0 value answer told on refl))
 
   pub call-done : first_no questions ≡ 0 → calling questions bytes state done ≡ done
   unfolding calling

@@ -1,11 +1,13 @@
 -- The first no to a call: the questions on the shape, which `check_shape` answers, come first, then those that are asked after them, one by one.
 -- Assumes nothing.
-use mathlib.Core.Path.{◌≡◌, refl, sym, ◌∙◌, ap, ap₂}
+use mathlib.Core.Path.{◌≡◌, refl, sym, ◌∙◌, ap}
 use mathlib.Core.Bool.{Bool, true, false, cond, ◌&&◌, and-eq-true_iff, true≢false}
+use Rattle.std.specs.Prelude.{⊤, IsErrAnd}
+use Rattle.std.proofs.lemmas.Result.{err_from_is_err_and}
 use mathlib.Core.List.{List, [], ◌∷◌, ◌++◌}
 use Prim.Native.Nat.{ℕ, zero, suc, ◌<◌}
 use native.Mathlib.Omega.{arith}
-use lib.Dec.{eqb, ltb}
+use lib.Dec.{eqb, ltb, lit<}
 use borrow.Author.Tests.{ltb-true}
 use lib.ListN.{length, get_or}
 use Rattle.parity.specs.Lists.{every, alongside}
@@ -15,10 +17,13 @@ use Rattle.parity.specs.declared.Shape.{Shape}
 use Rattle.parity.proofs.Alongside.{alongside-equal, alongside-append}
 use Rattle.parity.proofs.Taken.{first-yes}
 use Rattle.shape.specs.declared.sizes.Sizes.{Sizes}
-use Rattle.shape.specs.declared.sizes.Checked.{Checked}
-use Rattle.shape.specs.declared.sizes.Checked.TheVariants as checked
-use Rattle.shape.specs.Answers.{Said, accepted, refused, answering}
-use Rattle.shape.specs.Shapes.{sizes_of, no_sizes, checked_says, sizes_if, shape_says, Passed, sizes_in, then_says}
+use Rattle.std.specs.declared.result.Result.{Result as Answer}
+use Rattle.std.specs.declared.result.Result.TheVariants.{Ok, Err}
+use Rattle.shape.specs.declared.answer.Refusal.{Refusal}
+use Rattle.shape.specs.declared.answer.Refusal.TheVariants as refusals
+use Rattle.shape.specs.Refusals.{number_of, unless_holds, asked}
+use Rattle.shape.specs.Answers.{Said, accepted, refused, answering, says, outcome_says}
+use Rattle.shape.specs.Shapes.{sizes_of, no_sizes, checked_says, sizes_if, shape_says, Passed}
 
 -- ---- one list of questions after another
 
@@ -85,9 +90,36 @@ module _ {A : Type 0} (nothing value : A) where
   said-number zero m e = absurd (true≢false (sym (ap (λ a. a.taken) e)))
   said-number (suc n) m e = let same : m ≡ suc n = ap (λ a. a.number) e in (sym same, omega arith)
 
--- what `check_shape` and those above it answer is told of the case in hand
-pub told : {c d : Checked} {answer : Said Sizes} → checked_says c ≡ answer → c ≡ d → checked_says d ≡ answer
-told e same = ap checked_says (sym same) ∙ e
+-- every refusal has a number
+pub numbered-refusal : (refusal : Refusal) → 0 < number_of refusal
+numbered-refusal refusals.Radix = lit< tt
+numbered-refusal refusals.Digits = lit< tt
+numbered-refusal refusals.Errors = lit< tt
+numbered-refusal refusals.Width = lit< tt
+numbered-refusal refusals.Rows = lit< tt
+numbered-refusal refusals.Length = lit< tt
+numbered-refusal refusals.Place = lit< tt
+numbered-refusal refusals.Level = lit< tt
+numbered-refusal refusals.Record = lit< tt
+numbered-refusal refusals.JobSize = lit< tt
+numbered-refusal refusals.JobVersion = lit< tt
+numbered-refusal refusals.JobLength = lit< tt
+numbered-refusal refusals.JobCells = lit< tt
+numbered-refusal refusals.JobFields = lit< tt
+numbered-refusal refusals.Skip = lit< tt
+numbered-refusal refusals.Line = lit< tt
+numbered-refusal refusals.Finished = lit< tt
+numbered-refusal refusals.Features = lit< tt
+numbered-refusal refusals.Range = lit< tt
+
+-- .. and so it is said
+module _ {A : Type 0} (nothing value : A) where
+  pub refuses : {n : ℕ} → (refusal : Refusal) → n ≡ number_of refusal → refused nothing (number_of refusal) ≡ answering nothing n value
+  refuses refusal e = go (number_of refusal) (numbered-refusal refusal) ∙ ap (λ n. answering nothing n value) (sym e)
+    where
+      go : (n : ℕ) → 0 < n → refused nothing n ≡ answering nothing n value
+      go zero pos = absurd (omega arith)
+      go (suc n) pos = refl
 
 module _ (questions : List Question) (s : Shape) where
   -- where the sizes are given, no question fails; a refusal's number is that of the first no
@@ -98,57 +130,101 @@ module _ (questions : List Question) (s : Shape) where
   fails n e = said-number no_sizes (sizes_of s) (first_no questions) n e
 
   -- .. and so it is said
-  pub says-sizes : (z : Sizes) → Passed questions s z → accepted z ≡ sizes_if (first_no questions) s
-  says-sizes z p = ap accepted p.sizes ∙ ap (λ n. sizes_if n s) (sym p.none)
+  pub says-sizes : {z : Sizes} → Passed questions s z → accepted z ≡ sizes_if (first_no questions) s
+  says-sizes p = ap accepted p.sizes ∙ ap (λ n. sizes_if n s) (sym p.none)
 
   pub says-number : (n : ℕ) → (first_no questions ≡ n) × (0 < n) → refused no_sizes n ≡ sizes_if (first_no questions) s
   says-number zero e = absurd (omega arith)
   says-number (suc n) e = ap (λ n. sizes_if n s) (sym e.0)
 
--- ---- questions after an answer
+-- ---- the answer to some questions, by its cases
+module _ {answer : Answer Sizes Refusal} (questions : List Question) (s : Shape) (e : checked_says answer ≡ sizes_if (first_no questions) s) where
+  pub answer-taken : {z : Sizes} → answer ≡ Ok z → Passed questions s z
+  answer-taken {z} is = passes questions s z (ap checked_says (sym is) ∙ e)
 
--- what is said after the sizes, where a question more holds and where it fails; and after a refusal
-module _ {asked : Checked} {z : Sizes} (e : asked ≡ checked.Taken z) (q : Question) where
-  pub after-yes : q.holds ≡ true → accepted z ≡ then_says asked (q ∷ [])
-  after-yes right = ap (λ b. answering no_sizes (cond b 0 q.number) z) (sym right) ∙ ap (λ c. then_says c (q ∷ [])) (sym e)
+  pub answer-refused : {refusal : Refusal} → answer ≡ Err refusal → (first_no questions ≡ number_of refusal) × (0 < number_of refusal)
+  answer-refused {refusal} is = fails questions s (number_of refusal) (ap checked_says (sym is) ∙ e)
 
-  pub after-no : q.holds ≡ false → 0 < q.number → refused no_sizes q.number ≡ then_says asked (q ∷ [])
-  after-no wrong pos = go q.number pos ∙ ap (λ b. answering no_sizes (cond b 0 q.number) z) (sym wrong) ∙ ap (λ c. then_says c (q ∷ [])) (sym e)
-    where
-      go : (n : ℕ) → 0 < n → refused no_sizes n ≡ answering no_sizes n z
-      go zero pos = absurd (omega arith)
-      go (suc n) pos = refl
+  -- a refusal stays, whatever is asked after it
+  pub stays :
+      {refusal : Refusal} → answer ≡ Err refusal → (more : List Question)
+      → refused no_sizes (number_of refusal) ≡ sizes_if (first_no (questions ++ more)) s
+  stays {refusal} is more =
+      let no = answer-refused is in
+      says-number (questions ++ more) s (number_of refusal) (first_found questions more (number_of refusal) no.1 no.0, no.1)
 
-pub after-refusal : {asked : Checked} {n : ℕ} → asked ≡ checked.Refused n → (more : List Question) → refused no_sizes n ≡ then_says asked more
-after-refusal e more = ap (λ c. then_says c more) (sym e)
+-- what is handed on of a refusal
+pub handed :
+    {A V : Type 0} (nothing : V) (value : A → V) (answer : Answer A Refusal) (refusal : Refusal) {told : Said V}
+    → IsErrAnd answer (λ y. y ≡ refusal) → refused nothing (number_of refusal) ≡ told → says nothing value answer ≡ told
+handed nothing value answer refusal on e =
+    let p = err_from_is_err_and answer on in
+    ap (says nothing value) (p.1 ∙ ap Err p.2) ∙ e
 
 -- an answer to the questions on a shape
-pub shape-asked : (s : Shape) (c : Checked) → checked_says c ≡ shape_says s → checked_says c ≡ sizes_if (first_no (shape_questions s)) s
+pub shape-asked : (s : Shape) {answer : Said Sizes} → answer ≡ shape_says s → answer ≡ sizes_if (first_no (shape_questions s)) s
 unfolding shape_refusal
-shape-asked s c e = e
+shape-asked s e = e
 
--- where no question fails, the sizes in the answer to them are the shape's ..
-pub sizes-told : (qs : List Question) (s : Shape) (c : Checked) → checked_says c ≡ sizes_if (first_no qs) s → first_no qs ≡ 0 → sizes_in c ≡ sizes_of s
-sizes-told qs s c e none = ap (λ a. a.value) (e ∙ ap (λ n. sizes_if n s) none)
+-- ---- a question more
 
--- .. and so are those in the answer to the questions on the shape, where more was asked since
-pub sizes-known :
-    (s : Shape) (c : Checked) (z : Sizes) (more : List Question) → checked_says c ≡ shape_says s → z ≡ sizes_in c
-    → first_no (shape_questions s ++ more) ≡ 0 → z ≡ sizes_of s
-sizes-known s c z more e same none =
-    same ∙ sizes-told (shape_questions s) s c (shape-asked s c e) (first-none (shape_questions s) more refl none).0
+-- whether it held, and the refusal that is told, or the one in hand where none is
+held : Answer ⊤ Refusal → Bool
+held (Ok _) = true
+held (Err _) = false
 
--- A question more is answered as all the questions are, where the test by the sizes in hand is the question's own.
-pub ask :
-    (qs : List Question) (s : Shape) (asked next : Checked) (tested q : Question) → numbered qs ≡ true → checked_says asked ≡ sizes_if (first_no qs) s
-    → checked_says next ≡ then_says asked (tested ∷ []) → (Passed qs s (sizes_in asked) → tested ≡ q)
-    → checked_says next ≡ sizes_if (first_no (qs ++ q ∷ [])) s
-ask qs s (checked.Taken z) next tested q numbers e more same =
-    let p = passes qs s z e in
-    more ∙ ap₂ (answering no_sizes) (ap (λ q. first_no (q ∷ [])) (same p) ∙ sym (first_rest qs (q ∷ []) numbers p.none)) p.sizes
-ask qs s (checked.Refused n) next tested q numbers e more same =
-    let found = fails qs s n e in
-    more ∙ says-number (qs ++ q ∷ []) s n (first_found qs (q ∷ []) n found.1 found.0, found.1)
+told_or : Refusal → Answer ⊤ Refusal → Refusal
+told_or refusal (Ok _) = refusal
+told_or refusal (Err told) = told
+
+-- what an answer to it tells
+pub yes-told :
+    (refusal : Refusal) (holds : Bool) {answer : Answer ⊤ Refusal} → answer ≡ unless_holds refusal holds → answer ≡ Ok tt → holds ≡ true
+unfolding held
+yes-told refusal true e is = refl
+yes-told refusal false e is = absurd (true≢false (ap held (sym is ∙ e)))
+
+pub no-told :
+    (refusal : Refusal) {told : Refusal} (holds : Bool) {answer : Answer ⊤ Refusal} → answer ≡ unless_holds refusal holds → answer ≡ Err told
+    → (holds ≡ false) × (told ≡ refusal)
+unfolding held told_or
+no-told refusal true e is = absurd (true≢false (ap held (sym e ∙ is)))
+no-told refusal false e is = (refl, ap (told_or refusal) (sym is ∙ e))
+
+-- one question, asked by itself
+pub one-asked :
+    (refusal : Refusal) (holds : Bool) {answer : Answer ⊤ Refusal} → answer ≡ unless_holds refusal holds
+    → outcome_says answer ≡ answering 0 (first_no (asked ((refusal, holds) ∷ []))) 0
+one-asked refusal true e = ap outcome_says e
+one-asked refusal false e = ap outcome_says e ∙ refuses 0 0 refusal refl
+
+-- further questions, by the code's tests, of which the first no is that of the questions themselves
+module _
+    {qs : List Question} {s : Shape} {z : Sizes} (numbers : numbered qs ≡ true) (p : Passed qs s z) (more : List Question)
+    {answer : Answer ⊤ Refusal} {n : ℕ} (e : outcome_says answer ≡ answering 0 n 0) (same : n ≡ first_no more) where
+  pub asked-yes : answer ≡ Ok tt → Passed (qs ++ more) s z
+  asked-yes is =
+      let none = (said-value 0 0 n 0 (ap outcome_says (sym is) ∙ e)).0 in
+      record { none = first_rest qs more numbers p.none ∙ sym same ∙ none; sizes = p.sizes }
+
+  pub asked-no :
+      {told : Refusal} → answer ≡ Err told → (last : Answer Sizes Refusal) → IsErrAnd last (λ y. y ≡ told) → (later : List Question)
+      → checked_says last ≡ sizes_if (first_no ((qs ++ more) ++ later)) s
+  asked-no {told} is last on later =
+      let found = said-number 0 0 n (number_of told) (ap outcome_says (sym is) ∙ e) in
+      handed no_sizes (λ z. z) last told on
+      (says-number ((qs ++ more) ++ later) s (number_of told)
+      (first_found (qs ++ more) later (number_of told) found.1 (first_rest qs more numbers p.none ∙ sym same ∙ found.0), found.1))
+
+-- the questions on the shape
+module _ (s : Shape) {answer : Answer Sizes Refusal} (e : checked_says answer ≡ shape_says s) where
+  pub shape-yes : {z : Sizes} → answer ≡ Ok z → Passed (shape_questions s) s z
+  shape-yes is = answer-taken (shape_questions s) s (shape-asked s e) is
+
+  pub shape-no :
+      {told : Refusal} → answer ≡ Err told → (last : Answer Sizes Refusal) → IsErrAnd last (λ y. y ≡ told) → (more : List Question)
+      → checked_says last ≡ sizes_if (first_no (shape_questions s ++ more)) s
+  shape-no {told} is last on more = handed no_sizes (λ z. z) last told on (stays (shape_questions s) s (shape-asked s e) is more)
 
 -- of a shape that is taken, the first no is that of the other questions
 pub taken-rest : (s : Shape) → Taken s → (more : List Question) → first_no (shape_questions s ++ more) ≡ first_no more
@@ -187,11 +263,3 @@ pub levels-tested :
     {q : ℕ} {result : Bool} (s : Shape) → q ≡ levels s → (given : List ℕ) → result ≡ every (λ v. ltb v q) given
     → every (λ v. ltb v (levels s)) given ≡ result
 levels-tested s e given tested = ap (λ q. every (λ v. ltb v q) given) (sym e) ∙ sym tested
-
--- ---- the answer to all the questions of a call, by its cases
-module _ (questions : List Question) (s : Shape) (answer : Checked) (e : checked_says answer ≡ sizes_if (first_no questions) s) where
-  pub answer-taken : {z : Sizes} → answer ≡ checked.Taken z → Passed questions s z
-  answer-taken {z} is = passes questions s z (told e is)
-
-  pub answer-refused : (n : ℕ) → answer ≡ checked.Refused n → (first_no questions ≡ n) × (0 < n)
-  answer-refused n is = fails questions s n (told e is)

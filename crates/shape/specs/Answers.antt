@@ -1,14 +1,12 @@
 -- What the calls answer: for each case of each answer, document 01's number and value; and all that a call gives, taken or refused.
-use Rattle.std.specs.Prelude.{Bool, true, false, cond, List, ℕ, ltb}
+use Rattle.std.specs.Prelude.{Bool, true, false, cond, List, ℕ, ltb, ⊤}
 use Rattle.parity.specs.Questions.{Question, first_no, if_taken}
-use Rattle.shape.specs.declared.answer.Answer.{Answer}
-use Rattle.shape.specs.declared.answer.Answer.TheVariants as answers
-use Rattle.shape.specs.declared.answer.First.{First}
-use Rattle.shape.specs.declared.answer.First.TheVariants as firsts
-use Rattle.shape.specs.declared.answer.Outcome.{Outcome}
-use Rattle.shape.specs.declared.answer.Outcome.TheVariants as outcomes
-use Rattle.shape.specs.declared.answer.Verdict.{Verdict}
-use Rattle.shape.specs.declared.answer.Verdict.TheVariants as verdicts
+use Rattle.std.specs.declared.option.Option.{Option}
+use Rattle.std.specs.declared.option.Option.TheVariants as options
+use Rattle.std.specs.declared.result.Result.{Result as Answer}
+use Rattle.std.specs.declared.result.Result.TheVariants as answers
+use Rattle.shape.specs.declared.answer.Refusal.{Refusal}
+use Rattle.shape.specs.Refusals.{number_of}
 
 -- Whether a call is taken; the number of the first no, 0 where there is none; and the value that it answers.
 pub record Said (A : Type 0) : Type 0 where
@@ -30,21 +28,23 @@ module _ {A : Type 0} where
 
 -- ---- the answers, case by case
 
+-- a refusal has no value: what stands for one is given first
+module _ {A V : Type 0} (nothing : V) (value : A → V) where
+  abbrev pub says : Answer A Refusal → Said V
+  says (answers.Ok answer) = accepted (value answer)
+  says (answers.Err refusal) = refused nothing (number_of refusal)
+
 -- a count; every count of a refusal is 0
-abbrev pub answer_says : Answer → Said ℕ
-answer_says (answers.Is count) = accepted count
-answer_says (answers.Refused number) = refused 0 number
+abbrev pub answer_says : Answer ℕ Refusal → Said ℕ
+answer_says = says 0 (λ count. count)
 
 -- no count, which is 0
-abbrev pub outcome_says : Outcome → Said ℕ
-outcome_says outcomes.Done = accepted 0
-outcome_says (outcomes.Refused number) = refused 0 number
+abbrev pub outcome_says : Answer ⊤ Refusal → Said ℕ
+outcome_says = says 0 (λ _. 0)
 
 -- yes or no; a refusal says neither, and no stands for it
-abbrev pub verdict_says : Verdict → Said Bool
-verdict_says verdicts.Yes = accepted true
-verdict_says verdicts.No = accepted false
-verdict_says (verdicts.Refused number) = refused false number
+abbrev pub verdict_says : Answer Bool Refusal → Said Bool
+verdict_says = says false (λ verdict. verdict)
 
 -- a row's number, or none
 pub data Found : Type 0 where
@@ -55,10 +55,12 @@ pub data Found : Type 0 where
 abbrev pub row_or_none : ℕ → ℕ → Found
 row_or_none m i = cond (ltb i m) (row i) none
 
-abbrev pub first_says : First → Said Found
-first_says (firsts.Row i) = accepted (row i)
-first_says firsts.Nothing = accepted none
-first_says (firsts.Refused number) = refused none number
+abbrev pub found_of : Option ℕ → Found
+found_of (options.Some i) = row i
+found_of options.None = none
+
+abbrev pub first_says : Answer (Option ℕ) Refusal → Said Found
+first_says = says none found_of
 
 -- ---- all that a call gives
 

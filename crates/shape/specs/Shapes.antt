@@ -1,12 +1,12 @@
 -- The answer to the questions on a shape, and to those that are asked after them.
 use Rattle.std.specs.Prelude.{◌≡◌, List, ℕ}
+use Rattle.std.specs.declared.result.Result.{Result as Answer}
 use Rattle.parity.specs.Shape.{levels, checks, columns, cell_count}
 use Rattle.parity.specs.Questions.{Question, first_no, shape_refusal}
 use Rattle.parity.specs.declared.Shape.{Shape}
 use Rattle.shape.specs.declared.sizes.Sizes.{Sizes}
-use Rattle.shape.specs.declared.sizes.Checked.{Checked}
-use Rattle.shape.specs.declared.sizes.Checked.TheVariants.{Taken, Refused}
-use Rattle.shape.specs.Answers.{Said, accepted, refused, answering}
+use Rattle.shape.specs.declared.answer.Refusal.{Refusal}
+use Rattle.shape.specs.Answers.{Said, says, answering}
 
 -- q, r, n and m × n of a shape
 abbrev pub sizes_of : Shape → Sizes
@@ -16,10 +16,9 @@ sizes_of s = record { levels = levels s; checks = checks s; columns = columns s;
 abbrev pub no_sizes : Sizes
 no_sizes = record { levels = 0; checks = 0; columns = 0; cells = 0 }
 
--- the answer, case by case
-abbrev pub checked_says : Checked → Said Sizes
-checked_says (Taken sizes) = accepted sizes
-checked_says (Refused number) = refused no_sizes number
+-- the answer: sizes, or a refusal
+abbrev pub checked_says : Answer Sizes Refusal → Said Sizes
+checked_says = says no_sizes (λ sizes. sizes)
 
 -- a shape's sizes, where the first no to what is asked has this number, 0 being none
 abbrev pub sizes_if : ℕ → Shape → Said Sizes
@@ -33,14 +32,3 @@ shape_says s = sizes_if (shape_refusal s) s
 pub record Passed (questions : List Question) (s : Shape) (given : Sizes) : Type 0 where
   pub none : first_no questions ≡ 0
   pub sizes : given ≡ sizes_of s
-
--- ---- these only serve the code's own contracts
-
--- the sizes in an answer
-abbrev pub sizes_in : Checked → Sizes
-sizes_in answer = (checked_says answer).value
-
--- an answer, and then further questions: a refusal stays; after sizes the first no of these is told
-abbrev pub then_says : Checked → List Question → Said Sizes
-then_says (Taken sizes) more = answering no_sizes (first_no more) sizes
-then_says (Refused number) more = refused no_sizes number

@@ -5,7 +5,7 @@ ghost use Rattle.parity.specs.Questions.{first_no, column_questions};
 ghost use Rattle.shape.specs.Bounds.{Within};
 ghost use Rattle.shape.specs.Shapes.{checked_says, sizes_if, shape_says};
 
-use super::byte::wide;
+use super::answer::{Answer, Refusal};
 use parity::Shape;
 
 // The largest k for each τ (row τ − 1) and r (column r − 1).
@@ -61,26 +61,17 @@ impl Sizes {
     pub const MAX_ROWS: usize = 4096;
 }
 
-// A shape's sizes, or the number of the first question that it fails.
-#[derive(Clone, Copy)]
-pub enum Checked {
-    Taken(Sizes),
-    Refused(u8),
-}
-
 // q, or 257 where ρ^b is above 256: the power stops as soon as it passes the limit.
 fn capped_power(radix: usize, digits: usize) -> usize
     requires { Within 2 radix 255 }
     ensures { result ≡ cond (leb (radix ^ digits) 256) (radix ^ digits) 257 }
 {
     let mut power: usize = 1;
-    let mut i: usize = 0;
-    while i < digits {
+    for _ in 0..digits {
         power = power * radix;
         if Sizes::MAX_LEVELS < power {
             return Sizes::MAX_LEVELS + 1;
         }
-        i += 1;
     }
     power
 }
@@ -91,7 +82,7 @@ fn carried(errors: usize, checks: usize) -> usize
     requires within_2 { Within 1 checks 8 }
     ensures { result ≡ largest errors checks }
 {
-    wide(LARGEST[errors - 1][checks - 1])
+    usize::from(LARGEST[errors - 1][checks - 1])
 }
 
 // r, the least number of check columns that carries k, or 9 where none does.
@@ -99,18 +90,16 @@ fn least_checks(errors: usize, width: usize) -> usize
     requires { Within 1 errors 3 }
     ensures { result ≡ redundancy errors width }
 {
-    let mut checks: usize = 1;
-    while checks <= Sizes::MAX_CHECKS {
+    for checks in 1..=Sizes::MAX_CHECKS {
         if width <= carried(errors, checks) {
             return checks;
         }
-        checks += 1;
     }
-    checks
+    Sizes::MAX_CHECKS + 1
 }
 
 // Questions 3 to 5 of a shape with q levels.
-fn check_columns(shape: Shape, levels: usize) -> Checked
+fn check_columns(shape: Shape, levels: usize) -> Answer<Sizes>
     requires { levels ≡ levels_of shape }
     ensures { checked_says result ≡ sizes_if (first_no (column_questions shape)) shape }
 {
@@ -118,27 +107,27 @@ fn check_columns(shape: Shape, levels: usize) -> Checked
     let width = shape.width;
     let rows = shape.rows;
     if errors < Sizes::MIN_ERRORS {
-        return Checked::Refused(3);
+        return Err(Refusal::Errors);
     }
     if Sizes::MAX_ERRORS < errors {
-        return Checked::Refused(3);
+        return Err(Refusal::Errors);
     }
     if width < Sizes::MIN_WIDTH {
-        return Checked::Refused(4);
+        return Err(Refusal::Width);
     }
     let checks = least_checks(errors, width);
     if Sizes::MAX_CHECKS < checks {
-        return Checked::Refused(4);
+        return Err(Refusal::Width);
     }
     if rows < Sizes::MIN_ROWS {
-        return Checked::Refused(5);
+        return Err(Refusal::Rows);
     }
     if Sizes::MAX_ROWS < rows {
-        return Checked::Refused(5);
+        return Err(Refusal::Rows);
     }
     let columns = width + checks;
     let cells = rows * columns;
-    Checked::Taken(Sizes {
+    Ok(Sizes {
         levels,
         checks,
         columns,
@@ -147,23 +136,23 @@ fn check_columns(shape: Shape, levels: usize) -> Checked
 }
 
 // Questions 1 to 5, in their order.
-pub fn check_shape(shape: Shape) -> Checked
+pub fn check_shape(shape: Shape) -> Answer<Sizes>
     ensures { checked_says result ≡ shape_says shape }
 {
     let radix = shape.radix;
     if radix < Sizes::MIN_RADIX {
-        return Checked::Refused(1);
+        return Err(Refusal::Radix);
     }
     if Sizes::MAX_RADIX < radix {
-        return Checked::Refused(1);
+        return Err(Refusal::Radix);
     }
     let digits = shape.digits;
     if digits < Sizes::MIN_DIGITS {
-        return Checked::Refused(2);
+        return Err(Refusal::Digits);
     }
     let levels = capped_power(radix, digits);
     if Sizes::MAX_LEVELS < levels {
-        return Checked::Refused(2);
+        return Err(Refusal::Digits);
     }
     check_columns(shape, levels)
 }

@@ -1,26 +1,74 @@
--- `array_questions::check_ask` meets its contract: 6 on the cells, the levels and the buffer, 7, then 8. Assumes nothing.
-use mathlib.Core.Path.{refl, ap}
-use mathlib.Core.List.{[], ◌∷◌}
+-- `array_questions::check_ask` meets its contract: 6 on the cells, then on the levels and the buffer, 7, then 8. Assumes nothing.
+use mathlib.Core.Path.{◌≡◌, refl, ap, ◌∙◌}
+use mathlib.Core.Bool.{Bool, and-true}
+use mathlib.Core.List.{List, [], ◌∷◌, ◌++◌}
+use Prim.Native.Nat.{ℕ}
+use lib.Dec.{eqb, ltb}
 use lib.ListN.{length}
-use Rattle.parity.specs.Shape.{levels, columns}
-use Rattle.parity.specs.Questions.{place_question, levels_question, lengths_question}
-use Rattle.shape.proofs.Refusals.{ask}
-use Rattle.array_questions.specs.Questions.{cells_questions}
-use Rattle.array_questions.proofs.Asking.{lengths-asked}
+use Rattle.parity.specs.Lists.{every, alongside}
+use Rattle.parity.specs.Shape.{levels, columns, cell_count}
+use Rattle.parity.specs.Questions.{Question, question, first_no, place_question, levels_question, lengths_question}
+use Rattle.parity.specs.declared.Shape.{Shape}
+use Rattle.shape.specs.Shapes.{sizes_of}
+use Rattle.shape.specs.declared.answer.Refusal.TheVariants.{Level}
+use Rattle.shape.specs.declared.sizes.Sizes.{Sizes}
+use Rattle.shape.proofs.Refusals.{shape-yes, shape-no, one-asked, asked-yes, asked-no, says-sizes}
+use Rattle.array_memory.specs.Lengths.{cells_wanted}
 use Rattle.array_questions.proofs.check_ask.Goals as goal
 
--- all asked
+module _ (s : Shape) (cells : ℕ) (row : ℕ) (given : List ℕ) (finished : ℕ) where
+  -- what is asked after the shape, up to 7; and 8
+  abbrev more : List Question
+  more = lengths_question (cells ∷ []) (cells_wanted s) ∷ lengths_question (length given ∷ finished ∷ [])
+      (s.width ∷ columns s ∷ []) ∷ place_question row s.rows ∷ []
+
+  abbrev eight : List Question
+  eight = levels_question (levels s) given ∷ []
+
+  -- the code's tests are these
+  tested :
+      (told : Bool) (z : Sizes) → z ≡ sizes_of s → told ≡ alongside eqb (length given ∷ finished ∷ []) (s.width ∷ z.columns ∷ [])
+      → first_no (question 6 (eqb cells z.cells) ∷ question 6 told ∷ place_question row s.rows ∷ []) ≡ first_no more
+  tested told z e test =
+      let wanted = test ∙ ap (λ z. alongside eqb (length given ∷ finished ∷ []) (s.width ∷ z.columns ∷ [])) e in
+      rw (e, wanted, and-true (eqb cells (cell_count s))) refl
+
+  below :
+      (told : Bool) (z : Sizes) → z ≡ sizes_of s → told ≡ every (λ v. ltb v z.levels) given → first_no (question 8 told ∷ []) ≡ first_no eight
+  below told z e test = ap (λ t. first_no (question 8 t ∷ [])) (test ∙ ap (λ z. every (λ v. ltb v z.levels) given) e)
+
+-- the shape
+pub returns-in_err-sizes : goal.returns-in_err-sizes
+returns-in_err-sizes c =
+    let a = c.args in
+    shape-no a.shape c.check_shape.ensures c.in_err-sizes.was c.from_residual.result c.from_residual.ensures.1
+    (more a.shape a.cells a.row a.given.now a.finished ++ eight a.shape a.cells a.row a.given.now a.finished)
+
+-- 6 and 7
+pub returns-in_err-ask : goal.returns-in_err-ask
+returns-in_err-ask c =
+    let a = c.args in
+    let p = shape-yes a.shape c.check_shape.ensures c.in_ok-sizes.was in
+    asked-no refl p (more a.shape a.cells a.row a.given.now a.finished) c.ask.ensures
+    (tested a.shape a.cells a.row a.given.now a.finished _ _ p.sizes c.same_lengths.ensures)
+    c.in_err-ask.was _ c.from_residual-in_err-ask.ensures.1 (eight a.shape a.cells a.row a.given.now a.finished)
+
+-- 8
+pub returns-in_err-unless : goal.returns-in_err-unless
+returns-in_err-unless c =
+    let a = c.args in
+    let p = shape-yes a.shape c.check_shape.ensures c.in_ok-sizes.was in
+    let seven = asked-yes refl p (more a.shape a.cells a.row a.given.now a.finished) c.ask.ensures
+    (tested a.shape a.cells a.row a.given.now a.finished _ _ p.sizes c.same_lengths.ensures) c.in_ok-ask.was in
+    asked-no refl seven (eight a.shape a.cells a.row a.given.now a.finished) (one-asked Level _ c.unless.ensures)
+    (below a.shape a.cells a.row a.given.now a.finished _ _ p.sizes c.all_below.ensures) c.in_err-unless.was _ c.from_residual-in_err-unless.ensures.1 []
+
 pub returns : goal.returns
 returns c =
-    let args = c.args in
-    let s = args.shape in
-    let given = args.given.now in
-    let own = lengths_question (length given ∷ args.finished ∷ []) (s.width ∷ columns s ∷ []) in
-    let seven = place_question args.row s.rows in
-    ask (cells_questions s args.cells (own ∷ seven ∷ [])) s c.check-2.result c.check_levels.result _ (levels_question (levels s) given) refl
-    (ask (cells_questions s args.cells (own ∷ [])) s c.check.result c.check-2.result seven seven refl
-    (lengths-asked s args.cells c.check_shape-asked.result c.check.result c.sizes-sizes.result _ c.check_shape-asked.ensures
-    c.sizes-sizes.ensures c.check.ensures (length given ∷ args.finished ∷ []) (λ z. s.width ∷ z.columns ∷ [])
-    c.same_lengths.ensures)
-    c.check-2.ensures (λ p. refl))
-    c.check_levels.ensures (λ p. ap (λ z. levels_question z.levels given) p.sizes)
+    let a = c.args in
+    let p = shape-yes a.shape c.check_shape.ensures c.in_ok-sizes.was in
+    let seven = asked-yes refl p (more a.shape a.cells a.row a.given.now a.finished) c.ask.ensures
+    (tested a.shape a.cells a.row a.given.now a.finished _ _ p.sizes c.same_lengths.ensures) c.in_ok-ask.was in
+    says-sizes _ a.shape
+    (asked-yes refl seven (eight a.shape a.cells a.row a.given.now a.finished) (one-asked Level _ c.unless.ensures)
+    (below a.shape a.cells a.row a.given.now a.finished _ _ p.sizes c.all_below.ensures) c.in_ok-unless.was)

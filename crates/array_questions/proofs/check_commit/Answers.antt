@@ -1,67 +1,87 @@
--- `array_questions::check_commit` meets its contract: 6 on the cells and the finished row, 7, 8, and then 17, where the row is of n levels.
--- Assumes nothing.
-use mathlib.Core.Path.{◌≡◌, refl, ap}
-use mathlib.Core.Bool.{Bool}
+-- `array_questions::check_commit` meets its contract: 6 on the cells and on the finished row, 7, 8, and then 17, where the row is of n levels. Assumes nothing.
+use mathlib.Core.Path.{◌≡◌, refl, ap, ◌∙◌}
+use mathlib.Core.Bool.{Bool, and-true}
 use mathlib.Core.List.{List, [], ◌∷◌, ◌++◌}
 use Prim.Native.Nat.{ℕ}
-use lib.Dec.{eqb}
+use lib.Dec.{eqb, ltb}
 use lib.ListN.{length}
-use Rattle.parity.specs.Lists.{alongside}
-use Rattle.parity.specs.Shape.{levels, columns}
-use Rattle.parity.specs.Questions.{Question, question, place_question, levels_question, sound_question, lengths_question, first_no}
+use Rattle.parity.specs.Lists.{every}
+use Rattle.parity.specs.Shape.{levels, columns, cell_count}
+use Rattle.parity.specs.Questions.{Question, question, first_no, place_question, levels_question, sound_question, lengths_question}
 use Rattle.parity.specs.declared.Shape.{Shape}
-use Rattle.shape.specs.Shapes.{checked_says, sizes_if, shape_says, sizes_in, then_says}
+use Rattle.shape.specs.Shapes.{sizes_of}
+use Rattle.shape.specs.declared.answer.Refusal.TheVariants.{Level, Finished}
 use Rattle.shape.specs.declared.sizes.Sizes.{Sizes}
-use Rattle.shape.specs.declared.sizes.Checked.{Checked}
-use Rattle.shape.specs.declared.sizes.Checked.TheVariants.{Taken}
-use Rattle.shape.proofs.Refusals.{told, fails, says-number, first_found, ask}
-use Rattle.array_questions.specs.Questions.{cells_questions}
-use Rattle.array_questions.proofs.Asking.{lengths-asked}
+use Rattle.shape.proofs.Refusals.{shape-yes, shape-no, one-asked, asked-yes, asked-no, says-sizes}
+use Rattle.array_memory.specs.Lengths.{cells_wanted}
 use Rattle.array_questions.proofs.check_commit.Goals as goal
 
--- what is asked up to 8
-abbrev first : Shape → ℕ → ℕ → List ℕ → List Question
-first s cells row finished =
-    cells_questions s cells (lengths_question (length finished ∷ []) (columns s ∷ []) ∷ place_question row s.rows ∷ levels_question (levels s) finished ∷ [])
+module _ (s : Shape) (cells : ℕ) (row : ℕ) (finished : List ℕ) where
+  -- what is asked after the shape, up to 7; and 8
+  abbrev more : List Question
+  more = lengths_question (cells ∷ []) (cells_wanted s) ∷ lengths_question (length finished ∷ []) (columns s ∷ []) ∷ place_question row s.rows ∷ []
 
-answered :
-    (s : Shape) (cells row : ℕ) (finished : List ℕ) (asked lengths placed leveled : Checked) (z : Sizes) (result : Bool)
-    → checked_says asked ≡ shape_says s → z ≡ sizes_in asked → result ≡ alongside eqb (cells ∷ length finished ∷ []) (z.cells ∷ z.columns ∷ [])
-    → checked_says lengths ≡ then_says asked (question 6 result ∷ []) → checked_says placed ≡ then_says lengths (place_question row s.rows ∷ [])
-    → checked_says leveled ≡ then_says placed (levels_question (sizes_in placed).levels finished ∷ [])
-    → checked_says leveled ≡ sizes_if (first_no (first s cells row finished)) s
-answered s cells row finished asked lengths placed leveled z result shape sizes same six seven eight =
-    let own = lengths_question (length finished ∷ []) (columns s ∷ []) in
-    let place = place_question row s.rows in
-    ask (cells_questions s cells (own ∷ place ∷ [])) s placed leveled _ (levels_question (levels s) finished) refl
-    (ask (cells_questions s cells (own ∷ [])) s lengths placed place place refl
-    (lengths-asked s cells asked lengths z _ shape sizes six (length finished ∷ []) (λ z. z.columns ∷ []) same)
-    seven (λ p. refl))
-    eight (λ p. ap (λ z. levels_question z.levels finished) p.sizes)
+  abbrev eight : List Question
+  eight = levels_question (levels s) finished ∷ []
 
--- refused up to 8
-pub returns-in-Refused : goal.returns-in-Refused
-returns-in-Refused c =
-    let s = c.args.shape in
-    let finished = c.args.finished.now in
-    let before = first s c.args.cells c.args.row finished in
-    let more = sound_question s finished ∷ [] in
-    let n = c.in-Refused.number in
-    let leveled = c.check_levels-leveled.result in
-    let eight =
-    answered s c.args.cells c.args.row finished _ _ _ leveled c.sizes-sizes.result _ c.check_shape-asked.ensures c.sizes-sizes.ensures
-    c.same_lengths.ensures c.check.ensures c.check-2.ensures c.check_levels-leveled.ensures in
-    let no = fails before s n (told eight c.in-Refused.is) in
-    says-number (before ++ more) s n (first_found before more n no.1 no.0, no.1)
+  -- the code's tests are these
+  tested :
+      (z : Sizes) → z ≡ sizes_of s → first_no
+      (question 6 (eqb cells z.cells) ∷ question 6 (eqb (length finished) z.columns) ∷ place_question row s.rows ∷ []) ≡ first_no more
+  tested z e = rw (e, and-true (eqb cells (cell_count s)), and-true (eqb (length finished) (columns s))) refl
 
--- 17 asked too
-pub returns-in-Taken : goal.returns-in-Taken
-returns-in-Taken c =
-    let s = c.args.shape in
-    let finished = c.args.finished.now in
-    let leveled = c.check_levels-leveled.result in
-    let eight =
-    answered s c.args.cells c.args.row finished _ _ _ leveled c.sizes-sizes.result _ c.check_shape-asked.ensures c.sizes-sizes.ensures
-    c.same_lengths.ensures c.check.ensures c.check-2.ensures c.check_levels-leveled.ensures in
-    ask (first s c.args.cells c.args.row finished) s (Taken c.in-Taken.sizes) c.check-in-Taken.result (question 17 _) (sound_question s finished) refl
-    (told eight c.in-Taken.is) c.check-in-Taken.ensures (λ p. ap (question 17) c.is_balanced.ensures)
+  below :
+      (told : Bool) (z : Sizes) → z ≡ sizes_of s → told ≡ every (λ v. ltb v z.levels) finished → first_no (question 8 told ∷ []) ≡ first_no eight
+  below told z e test = ap (λ t. first_no (question 8 t ∷ [])) (test ∙ ap (λ z. every (λ v. ltb v z.levels) finished) e)
+
+-- the shape
+pub returns-in_err-sizes : goal.returns-in_err-sizes
+returns-in_err-sizes c =
+    let a = c.args in
+    shape-no a.shape c.check_shape.ensures c.in_err-sizes.was c.from_residual.result c.from_residual.ensures.1
+    (more a.shape a.cells a.row a.finished.now ++ eight a.shape a.cells a.row a.finished.now ++ sound_question a.shape a.finished.now ∷ [])
+
+-- 6 and 7
+pub returns-in_err-ask : goal.returns-in_err-ask
+returns-in_err-ask c =
+    let a = c.args in
+    let p = shape-yes a.shape c.check_shape.ensures c.in_ok-sizes.was in
+    asked-no refl p (more a.shape a.cells a.row a.finished.now) c.ask.ensures (tested a.shape a.cells a.row a.finished.now _ p.sizes)
+    c.in_err-ask.was _ c.from_residual-in_err-ask.ensures.1 (eight a.shape a.cells a.row a.finished.now ++ sound_question a.shape a.finished.now ∷ [])
+
+-- 8
+pub returns-in_err-unless : goal.returns-in_err-unless
+returns-in_err-unless c =
+    let a = c.args in
+    let p = shape-yes a.shape c.check_shape.ensures c.in_ok-sizes.was in
+    let seven = asked-yes refl p (more a.shape a.cells a.row a.finished.now) c.ask.ensures (tested a.shape a.cells a.row a.finished.now _ p.sizes)
+    c.in_ok-ask.was in
+    asked-no refl seven (eight a.shape a.cells a.row a.finished.now) (one-asked Level _ c.unless.ensures)
+    (below a.shape a.cells a.row a.finished.now _ _ p.sizes c.all_below.ensures) c.in_err-unless.was _ c.from_residual-in_err-unless.ensures.1
+    (sound_question a.shape a.finished.now ∷ [])
+
+-- 17
+pub returns-in_err-unless-2 : goal.returns-in_err-unless-2
+returns-in_err-unless-2 c =
+    let a = c.args in
+    let p = shape-yes a.shape c.check_shape.ensures c.in_ok-sizes.was in
+    let seven = asked-yes refl p (more a.shape a.cells a.row a.finished.now) c.ask.ensures (tested a.shape a.cells a.row a.finished.now _ p.sizes)
+    c.in_ok-ask.was in
+    let leveled =
+    asked-yes refl seven (eight a.shape a.cells a.row a.finished.now) (one-asked Level _ c.unless.ensures)
+    (below a.shape a.cells a.row a.finished.now _ _ p.sizes c.all_below.ensures) c.in_ok-unless.was in
+    asked-no refl leveled (sound_question a.shape a.finished.now ∷ []) (one-asked Finished _ c.unless-2.ensures)
+    (ap (λ t. first_no (question 17 t ∷ [])) c.is_balanced.ensures) c.in_err-unless-2.was _ c.from_residual-in_err-unless-2.ensures.1 []
+
+pub returns : goal.returns
+returns c =
+    let a = c.args in
+    let p = shape-yes a.shape c.check_shape.ensures c.in_ok-sizes.was in
+    let seven = asked-yes refl p (more a.shape a.cells a.row a.finished.now) c.ask.ensures (tested a.shape a.cells a.row a.finished.now _ p.sizes)
+    c.in_ok-ask.was in
+    let leveled =
+    asked-yes refl seven (eight a.shape a.cells a.row a.finished.now) (one-asked Level _ c.unless.ensures)
+    (below a.shape a.cells a.row a.finished.now _ _ p.sizes c.all_below.ensures) c.in_ok-unless.was in
+    says-sizes _ a.shape
+    (asked-yes refl leveled (sound_question a.shape a.finished.now ∷ []) (one-asked Finished _ c.unless-2.ensures)
+    (ap (λ t. first_no (question 17 t ∷ [])) c.is_balanced.ensures) c.in_ok-unless-2.was)

@@ -1,25 +1,68 @@
--- `array_questions::check_program` meets its contract: 6 on the cells and the levels, 7, then 8. Assumes nothing.
-use mathlib.Core.Path.{refl, ap}
-use mathlib.Core.List.{[], ◌∷◌}
+-- `array_questions::check_program` meets its contract: 6 on the cells and on the levels, 7, then 8. Assumes nothing.
+use mathlib.Core.Path.{◌≡◌, refl, ap, ◌∙◌}
+use mathlib.Core.Bool.{Bool, and-true}
+use mathlib.Core.List.{List, [], ◌∷◌, ◌++◌}
+use Prim.Native.Nat.{ℕ}
+use lib.Dec.{eqb, ltb}
 use lib.ListN.{length}
-use Rattle.parity.specs.Shape.{levels}
-use Rattle.parity.specs.Questions.{place_question, levels_question, lengths_question}
-use Rattle.shape.proofs.Refusals.{ask}
-use Rattle.array_questions.specs.Questions.{cells_questions}
-use Rattle.array_questions.proofs.Asking.{lengths-asked}
+use Rattle.parity.specs.Lists.{every}
+use Rattle.parity.specs.Shape.{levels, cell_count}
+use Rattle.parity.specs.Questions.{Question, question, first_no, place_question, levels_question, lengths_question}
+use Rattle.parity.specs.declared.Shape.{Shape}
+use Rattle.shape.specs.Shapes.{sizes_of}
+use Rattle.shape.specs.declared.answer.Refusal.TheVariants.{Level}
+use Rattle.shape.specs.declared.sizes.Sizes.{Sizes}
+use Rattle.shape.proofs.Refusals.{shape-yes, shape-no, one-asked, asked-yes, asked-no, says-sizes}
+use Rattle.array_memory.specs.Lengths.{cells_wanted}
 use Rattle.array_questions.proofs.check_program.Goals as goal
 
--- all asked
+module _ (s : Shape) (cells : ℕ) (row : ℕ) (given : List ℕ) where
+  -- what is asked after the shape, up to 7; and 8
+  abbrev more : List Question
+  more = lengths_question (cells ∷ []) (cells_wanted s) ∷ lengths_question (length given ∷ []) (s.width ∷ []) ∷ place_question row s.rows ∷ []
+
+  abbrev eight : List Question
+  eight = levels_question (levels s) given ∷ []
+
+  -- the code's tests are these
+  tested :
+      (z : Sizes) → z ≡ sizes_of s → first_no
+      (question 6 (eqb cells z.cells) ∷ question 6 (eqb (length given) s.width) ∷ place_question row s.rows ∷ []) ≡ first_no more
+  tested z e = rw (e, and-true (eqb cells (cell_count s)), and-true (eqb (length given) s.width)) refl
+
+  below :
+      (told : Bool) (z : Sizes) → z ≡ sizes_of s → told ≡ every (λ v. ltb v z.levels) given → first_no (question 8 told ∷ []) ≡ first_no eight
+  below told z e test = ap (λ t. first_no (question 8 t ∷ [])) (test ∙ ap (λ z. every (λ v. ltb v z.levels) given) e)
+
+-- the shape
+pub returns-in_err-sizes : goal.returns-in_err-sizes
+returns-in_err-sizes c =
+    let a = c.args in
+    shape-no a.shape c.check_shape.ensures c.in_err-sizes.was c.from_residual.result c.from_residual.ensures.1
+    (more a.shape a.cells a.row a.given.now ++ eight a.shape a.cells a.row a.given.now)
+
+-- 6 and 7
+pub returns-in_err-ask : goal.returns-in_err-ask
+returns-in_err-ask c =
+    let a = c.args in
+    let p = shape-yes a.shape c.check_shape.ensures c.in_ok-sizes.was in
+    asked-no refl p (more a.shape a.cells a.row a.given.now) c.ask.ensures (tested a.shape a.cells a.row a.given.now _ p.sizes)
+    c.in_err-ask.was _ c.from_residual-in_err-ask.ensures.1 (eight a.shape a.cells a.row a.given.now)
+
+-- 8
+pub returns-in_err-unless : goal.returns-in_err-unless
+returns-in_err-unless c =
+    let a = c.args in
+    let p = shape-yes a.shape c.check_shape.ensures c.in_ok-sizes.was in
+    let seven = asked-yes refl p (more a.shape a.cells a.row a.given.now) c.ask.ensures (tested a.shape a.cells a.row a.given.now _ p.sizes) c.in_ok-ask.was in
+    asked-no refl seven (eight a.shape a.cells a.row a.given.now) (one-asked Level _ c.unless.ensures)
+    (below a.shape a.cells a.row a.given.now _ _ p.sizes c.all_below.ensures) c.in_err-unless.was _ c.from_residual-in_err-unless.ensures.1 []
+
 pub returns : goal.returns
 returns c =
-    let args = c.args in
-    let s = args.shape in
-    let given = args.given.now in
-    let own = lengths_question (length given ∷ []) (s.width ∷ []) in
-    let seven = place_question args.row s.rows in
-    ask (cells_questions s args.cells (own ∷ seven ∷ [])) s c.check-2.result c.check_levels.result _ (levels_question (levels s) given) refl
-    (ask (cells_questions s args.cells (own ∷ [])) s c.check.result c.check-2.result seven seven refl
-    (lengths-asked s args.cells c.check_shape-asked.result c.check.result c.sizes-sizes.result _ c.check_shape-asked.ensures
-    c.sizes-sizes.ensures c.check.ensures (length given ∷ []) (λ z. s.width ∷ []) c.same_lengths.ensures)
-    c.check-2.ensures (λ p. refl))
-    c.check_levels.ensures (λ p. ap (λ z. levels_question z.levels given) p.sizes)
+    let a = c.args in
+    let p = shape-yes a.shape c.check_shape.ensures c.in_ok-sizes.was in
+    let seven = asked-yes refl p (more a.shape a.cells a.row a.given.now) c.ask.ensures (tested a.shape a.cells a.row a.given.now _ p.sizes) c.in_ok-ask.was in
+    says-sizes _ a.shape
+    (asked-yes refl seven (eight a.shape a.cells a.row a.given.now) (one-asked Level _ c.unless.ensures)
+    (below a.shape a.cells a.row a.given.now _ _ p.sizes c.all_below.ensures) c.in_ok-unless.was)

@@ -1,19 +1,46 @@
--- `array_questions::check_read` meets its contract: 6 on the cells and the bytes out, then 7. Assumes nothing.
-use mathlib.Core.Path.{refl}
-use mathlib.Core.List.{[], ◌∷◌}
-use Rattle.parity.specs.Questions.{place_question, lengths_question}
-use Rattle.shape.proofs.Refusals.{ask}
-use Rattle.array_questions.specs.Questions.{cells_questions}
-use Rattle.array_questions.proofs.Asking.{lengths-asked}
+-- `array_questions::check_read` meets its contract: 6 on the cells and on the bytes out, then 7. Assumes nothing.
+use mathlib.Core.Path.{◌≡◌, refl}
+use mathlib.Core.Bool.{and-true}
+use mathlib.Core.List.{List, [], ◌∷◌}
+use Prim.Native.Nat.{ℕ}
+use lib.Dec.{eqb}
+use Rattle.parity.specs.Shape.{cell_count}
+use Rattle.parity.specs.Questions.{Question, question, first_no, place_question, lengths_question}
+use Rattle.parity.specs.declared.Shape.{Shape}
+use Rattle.shape.specs.Shapes.{sizes_of}
+use Rattle.shape.specs.declared.sizes.Sizes.{Sizes}
+use Rattle.shape.proofs.Refusals.{shape-yes, shape-no, asked-yes, asked-no, says-sizes}
+use Rattle.array_memory.specs.Lengths.{cells_wanted}
+use Rattle.array_questions.specs.Questions.{read_arguments}
 use Rattle.array_questions.proofs.check_read.Goals as goal
 
--- all asked
+module _ (s : Shape) (cells row out : ℕ) where
+  -- what is asked after the shape
+  abbrev more : List Question
+  more = lengths_question (cells ∷ []) (cells_wanted s) ∷ read_arguments s row out
+
+  -- the code's tests are these
+  tested :
+      (z : Sizes) → z ≡ sizes_of s
+      → first_no (question 6 (eqb cells z.cells) ∷ question 6 (eqb out s.width) ∷ place_question row s.rows ∷ []) ≡ first_no more
+  tested z e = rw (e, and-true (eqb cells (cell_count s)), and-true (eqb out s.width)) refl
+
+-- the shape
+pub returns-in_err-sizes : goal.returns-in_err-sizes
+returns-in_err-sizes c =
+    let a = c.args in
+    shape-no a.shape c.check_shape.ensures c.in_err-sizes.was c.from_residual.result c.from_residual.ensures.1 (more a.shape a.cells a.row a.out)
+
+pub returns-in_err-ask : goal.returns-in_err-ask
+returns-in_err-ask c =
+    let a = c.args in
+    let p = shape-yes a.shape c.check_shape.ensures c.in_ok-sizes.was in
+    asked-no refl p (more a.shape a.cells a.row a.out) c.ask.ensures (tested a.shape a.cells a.row a.out _ p.sizes)
+    c.in_err-ask.was _ c.from_residual-in_err-ask.ensures.1 []
+
 pub returns : goal.returns
 returns c =
-    let args = c.args in
-    let s = args.shape in
-    let seven = place_question args.row s.rows in
-    ask (cells_questions s args.cells (lengths_question (args.out ∷ []) (s.width ∷ []) ∷ [])) s c.check.result c.check-2.result seven seven refl
-    (lengths-asked s args.cells c.check_shape-asked.result c.check.result c.sizes-sizes.result _ c.check_shape-asked.ensures
-    c.sizes-sizes.ensures c.check.ensures (args.out ∷ []) (λ z. s.width ∷ []) c.same_lengths.ensures)
-    c.check-2.ensures (λ p. refl)
+    let a = c.args in
+    let p = shape-yes a.shape c.check_shape.ensures c.in_ok-sizes.was in
+    says-sizes _ a.shape
+    (asked-yes refl p (more a.shape a.cells a.row a.out) c.ask.ensures (tested a.shape a.cells a.row a.out _ p.sizes) c.in_ok-ask.was)

@@ -1,27 +1,24 @@
--- `cycle_run::run_cycle` meets its contract: 15 and then 6 are asked, `start_lent` starts the cycle, and `steps_lent` makes its steps: no fewer
+-- `cycle_run::run_cycle` meets its contract: `check_run` asks 15 and then 6, `start_lent` starts the cycle, and `steps_lent` makes its steps: no fewer
 -- than it has. Assumes nothing.
 use mathlib.Core.Path.{◌≡◌, refl, sym, ◌∙◌, ap, subst}
-use mathlib.Core.List.{List, [], ◌∷◌, ◌++◌}
+use mathlib.Core.List.{List, [], ◌∷◌}
 use mathlib.Core.Bool.{true}
 use Prim.Native.Nat.{ℕ, ◌≤◌, ◌<◌}
 use native.Mathlib.Omega.{arith}
 use lib.Dec.{lit<}
 use lib.ListN.{length, replicate}
 use Rattle.parity.specs.Matrix.{cycle_steps}
-use Rattle.parity.specs.Questions.{Question, first_no, shape_questions, skip_question, lengths_question}
+use Rattle.parity.specs.Questions.{Question, lengths_question}
 use Rattle.parity.specs.Claims.{most_steps}
 use Rattle.parity.specs.declared.Shape.{Shape}
 use Rattle.parity.proofs.Alongside.{equal-alongside}
 use Rattle.parity.proofs.Longest.{lookups-high}
 use Rattle.parity.proofs.Taken.{first-yes, skip_below}
 use Rattle.shape.specs.Answers.{accepted, giving}
-use Rattle.shape.specs.Shapes.{checked_says, sizes_if, sizes_in, shape_says, then_says, Passed}
+use Rattle.shape.specs.Shapes.{Passed}
 use Rattle.shape.specs.declared.sizes.Sizes.{Sizes}
-use Rattle.shape.specs.declared.sizes.Checked.{Checked}
-use Rattle.shape.proofs.Refusals.{answer-taken, answer-refused, shape-asked, sizes-told, ask, length-lent, CallPassed, call-passed}
-use Rattle.shape.proofs.Asking.{both-asked}
+use Rattle.shape.proofs.Refusals.{answer-taken, answer-refused, length-lent, CallPassed, call-passed}
 use Rattle.shape.proofs.Calling.{call-done}
-use Rattle.array_memory.specs.Blocks.{blocks}
 use Rattle.array_memory.specs.Lengths.{all_wanted, rows_lengths, all_lengths, Sized}
 use Rattle.array_memory.specs.Memory.{Memory, with_array, with_rows, with_all, no_memory}
 use Rattle.array_memory.proofs.Asked.{all-sized}
@@ -125,31 +122,11 @@ module _
         ∙ ap (λ st. giving (accepted 0) (last_matches z s (lent mem)) (after_steps s st (replicate (cycle_steps z s) matches))) (left mem)
         ∙ sym (steps-made mem most_steps (omega (arith, lookups-high z s parts.taken)))
 
--- what is answered to all the questions
-answered :
-    (s : Shape) (z : ℕ) (mem : Memory) (matches : List ℕ) (shape skip answer : Checked) → checked_says shape ≡ shape_says s
-    → checked_says skip ≡ then_says shape (skip_question s z ∷ [])
-    → checked_says answer
-    ≡ then_says skip (lengths_question (all_lengths mem ++ length matches ∷ [])
-    ((sizes_in skip).cells ∷ s.rows ∷ s.rows ∷ s.rows ∷ blocks s ∷ s.rows ∷ []) ∷ [])
-    → checked_says answer ≡ sizes_if (first_no (cycle_questions s mem z matches)) s
-answered s z mem matches shape skip answer first second third =
-    let m = s.rows in
-    let fifteen = skip_question s z in
-    let numbers : List Question = shape_questions s ++ start_arguments s z in
-    let asked : checked_says skip ≡ sizes_if (first_no numbers) s =
-    ask (shape_questions s) s shape skip fifteen fifteen refl (shape-asked s shape first) second (λ p. refl) in
-    both-asked s numbers refl skip answer (sizes_in skip) _ asked (sizes-told numbers s skip asked) third (all_lengths mem)
-    (λ z. z.cells ∷ m ∷ m ∷ m ∷ blocks s ∷ []) (length matches ∷ []) (λ z. m ∷ []) refl refl
-
 pub start_lent-started-requires : goal.start_lent-started-requires
 start_lent-started-requires c =
     let args = c.args in
     let mem : Memory = with_all args.cells.now args.lines.now args.counters.now args.flags.now args.totals.now no_memory in
-    let passed =
-    answer-taken (cycle_questions args.shape mem args.skip args.matches.now) args.shape c.check_lent.result
-    (answered args.shape args.skip mem args.matches.now c.check_shape.result c.check.result c.check_lent.result c.check_shape.ensures c.check.ensures
-    c.check_lent.ensures) c.in-Taken.is in
+    let passed = answer-taken (cycle_questions args.shape mem args.skip args.matches.now) args.shape c.check_run.ensures c.in-Ok.is in
     start-passes args.shape args.skip args.cells.now args.lines.now args.counters.now args.flags.now args.totals.now args.matches.now _ passed
     args.cycle
 
@@ -157,36 +134,27 @@ pub steps_lent-requires : goal.steps_lent-requires
 steps_lent-requires c =
     let args = c.args in
     let mem : Memory = with_all args.cells.now args.lines.now args.counters.now args.flags.now args.totals.now no_memory in
-    let passed =
-    answer-taken (cycle_questions args.shape mem args.skip args.matches.now) args.shape c.check_lent.result
-    (answered args.shape args.skip mem args.matches.now c.check_shape.result c.check.result c.check_lent.result c.check_shape.ensures c.check.ensures
-    c.check_lent.ensures) c.in-Taken.is in
+    let passed = answer-taken (cycle_questions args.shape mem args.skip args.matches.now) args.shape c.check_run.ensures c.in-Ok.is in
     let start = c.start_lent-started in
     steps-pass args.shape args.skip args.cells.now args.lines.now args.counters.now args.flags.now args.totals.now args.matches.now _ passed
     args.cycle start.result start.new.counters start.new.flags start.new.totals start.ensures
 
 -- refused
-pub returns-in-Refused : goal.returns-in-Refused
+pub returns-in-Err : goal.returns-in-Err
 unfolding cycle_call
-returns-in-Refused c =
+returns-in-Err c =
     let args = c.args in
     let lent : Memory → Memory = λ mem. with_all args.cells.now args.lines.now args.counters.now args.flags.now args.totals.now mem in
     let questions : List Question = cycle_questions args.shape (lent no_memory) args.skip args.matches.now in
-    let number = c.in-Refused.number in
-    λ mem. gives-refusal questions args.matches.now (lent mem) args.cycle _ _ number
-    (answer-refused questions args.shape c.check_lent.result
-    (answered args.shape args.skip (lent no_memory) args.matches.now c.check_shape.result c.check.result c.check_lent.result c.check_shape.ensures
-    c.check.ensures c.check_lent.ensures) number c.in-Refused.is) c.refused.ensures
+    λ mem. gives-refusal questions args.matches.now (lent mem) args.cycle _ _ c.in-Err.refusal
+    (answer-refused questions args.shape c.check_run.ensures c.in-Err.is) c.refused.ensures
 
 -- a whole cycle
-pub returns-in-Taken : goal.returns-in-Taken
-returns-in-Taken c =
+pub returns-in-Ok : goal.returns-in-Ok
+returns-in-Ok c =
     let args = c.args in
     let mem : Memory = with_all args.cells.now args.lines.now args.counters.now args.flags.now args.totals.now no_memory in
-    let passed =
-    answer-taken (cycle_questions args.shape mem args.skip args.matches.now) args.shape c.check_lent.result
-    (answered args.shape args.skip mem args.matches.now c.check_shape.result c.check.result c.check_lent.result c.check_shape.ensures c.check.ensures
-    c.check_lent.ensures) c.in-Taken.is in
+    let passed = answer-taken (cycle_questions args.shape mem args.skip args.matches.now) args.shape c.check_run.ensures c.in-Ok.is in
     let start = c.start_lent-started in
     λ mem. whole-made args.shape args.skip args.cells.now args.lines.now args.counters.now args.flags.now args.totals.now args.matches.now _ passed
     args.cycle start.result start.new.counters start.new.flags start.new.totals start.ensures mem

@@ -1,10 +1,9 @@
 -- `cycle_sizes::count_ones` meets its contract: one more column has at most 8 ones. Assumes nothing.
-use mathlib.Core.Path.{◌≡◌, ap}
-use mathlib.Core.List.{List}
-use Prim.Native.Nat.{ℕ, zero, suc, ◌+◌, ◌*◌, ◌≤◌, ◌<◌}
+use Prim.Native.Nat.{ℕ, zero, suc, ◌≤◌}
 use native.Mathlib.Numerals.{add-one}
 use native.Mathlib.Omega.{arith}
-use lib.ListN.{length, get_or, take}
+use lib.ListN.{take}
+use mathlib.Core.Path.{ap}
 use Rattle.parity.specs.Lists.{sum_over, sum_to}
 use Rattle.parity.specs.Matrix.{bit, weight}
 use Rattle.parity.proofs.ListLaws.{sum-take-suc}
@@ -20,21 +19,13 @@ weight-high : (c : ℕ) → weight c ≤ 8
 unfolding weight
 weight-high c = bits-high 8 c
 
--- one more column
-next :
-    (columns : List ℕ) (j sum one : ℕ) → j < length columns → (j ≤ length columns) × (sum ≡ sum_over (take j columns) weight) × (sum ≤ 8 * j)
-    → one ≡ weight (get_or columns j 0)
-    → (j + 1 ≤ length columns) × (sum + one ≡ sum_over (take (j + 1) columns) weight) × (sum + one ≤ 8 * (j + 1))
-next columns j sum one inside before same = (
-  omega arith,
-  omega (arith, before.1, same, sum-take-suc weight columns j 0 inside, ap (λ n. sum_over (take n columns) weight) (add-one j)),
-  omega (arith, before.2, same, weight-high (get_or columns j 0)),
-)
-
 pub overflow_add-sum : goal.overflow_add-sum
-overflow_add-sum c =
-    omega (arith, (next c.args.columns.now c.loop-j.j c.loop-j.sum c.ones-sum.result c.loop-j-test.true c.loop-j.invariant c.ones-sum.ensures).2)
+overflow_add-sum c = omega (arith, weight-high)
 
-pub loop-j-preserved : goal.loop-j-preserved
-loop-j-preserved c =
-    next c.args.columns.now c.loop-j.j c.loop-j.sum c.ones-sum.result c.loop-j-test.true c.loop-j.invariant c.ones-sum.ensures
+pub loop-column-preserved : goal.loop-column-preserved
+loop-column-preserved c =
+    let columns = c.args.columns.now in
+    let i = c.loop-column.column-index in (
+      omega (arith, sum-take-suc weight columns i 0 (omega arith), ap (λ n. sum_over (take n columns) weight) (add-one i)),
+      omega (arith, weight-high),
+    )

@@ -6,13 +6,13 @@ use native.Mathlib.Omega.{arith}
 use lib.ListN.{length}
 use Rattle.parity.specs.Shape.{cell_count}
 use Rattle.parity.proofs.ListLaws.{length-tabulate}
-use Rattle.parity.proofs.MatrixFacts.{matrix_claim}
 use Rattle.parity.proofs.Taken.{limits}
 use Rattle.shape.specs.Answers.{accepted, giving}
 use Rattle.array_memory.specs.Geometry.{match_bytes}
 use Rattle.array_memory.specs.Memory.{with_array, with_all}
 use Rattle.cycle_passes.specs.Passes.{column_cells}
 use Rattle.cycle_place.specs.Walk.{test_of}
+use Rattle.cycle_place.proofs.Padding.{matrix-sized}
 use Rattle.cycle_lookup.specs.Lookup.{entry_matches}
 use Rattle.cycle_lookup.proofs.Passes.{test-proper, test-matches, reduced-below}
 use Rattle.cycle.specs.Calls.{state_of}
@@ -31,7 +31,7 @@ unfolding cell_count
 take_down-requires c =
     let args = c.args in
     let matrix = c.requires.matrix_lent in
-    let wide = ap length matrix.matrix ∙ (matrix_claim args.shape matrix.taken).sized in
+    let wide = matrix-sized matrix in
     let place = (test-place args.shape matrix.taken args.cycle c.requires.lookups_left).0 in
     let rows = c.requires.rows_lent in
     record {
@@ -45,7 +45,7 @@ count_tests-tested-requires-clause-column_held c =
     let matrix = c.requires.matrix_lent in
     let rows = c.requires.rows_lent in
     let limit = limits args.shape matrix.taken in
-    let wide = ap length matrix.matrix ∙ (matrix_claim args.shape matrix.taken).sized in
+    let wide = matrix-sized matrix in
     let matches = ap length c.take_down.ensures ∙ length-tabulate (length args.matches.now) _ in
     let counters = ap length c.reduce_rows.ensures ∙ length-tabulate (length args.counters.now) _ in
     record {
@@ -88,7 +88,7 @@ returns c =
     let rows = c.requires.rows_lent in
     let tested = c.count_tests-tested in
     let left = tested.new in
-    let wide = ap length c.requires.matrix_lent.matrix ∙ (matrix_claim s t).sized in
+    let wide = matrix-sized c.requires.matrix_lent in
     let taken = ap length c.take_down.ensures ∙ length-tabulate (length args.matches.now) _ ∙ rows.matches in
     λ mem.
     steps-reduced s t cycle c.requires.lookups_left cells lines args.counters.now flags totals rows.memory mem args.most (omega arith)

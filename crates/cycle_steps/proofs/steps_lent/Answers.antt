@@ -3,7 +3,7 @@
 use mathlib.Core.Path.{ap, ◌∙◌}
 use Prim.Native.Nat.{◌-◌}
 use lib.ListN.{length}
-use Rattle.acam.proofs.MatrixArray.{part-few, part-sized, part-within, part-padded}
+use Rattle.acam.proofs.MatrixArray.{part-few, part-sized, part-padded}
 use Rattle.array_memory.specs.Memory.{with_all, no_memory}
 use Rattle.cycle.proofs.Located.{lent-taken}
 use Rattle.cycle_steps.proofs.steps_lent.Goals as goal
@@ -26,13 +26,6 @@ fill_matrix-requires c =
       checks = ap (λ z. z.checks) c.requires.sizes;
       columns = part-sized args.shape taken _ wide ∙ wide;
     }
-
-pub slice_bounds-matrix-end-2 : goal.slice_bounds-matrix-end-2
-slice_bounds-matrix-end-2 c =
-    let args = c.args in
-    let lent = with_all args.cells.now args.lines.now args.counters.now args.flags.now args.totals.now no_memory in
-    let taken = lent-taken args.shape lent (length args.matches.now) c.requires.none in
-    part-within args.shape taken _ (ap (λ z. z.columns) c.requires.sizes) _ c.fill_matrix.ensures _ c.padded_length-padded.ensures
 
 pub steps_at-requires-clause-padded_lent : goal.steps_at-requires-clause-padded_lent
 steps_at-requires-clause-padded_lent c =

@@ -7,20 +7,21 @@ use Prim.Native.Nat.{ℕ, ◌≤◌}
 use native.Mathlib.Omega.{arith}
 use lib.ListN.{length, take, drop, length-append}
 use lib.Seq.{length-take-le, take_at}
+use Rattle.std.specs.declared.result.Result.{Result as Answer}
+use Rattle.std.specs.declared.result.Result.TheVariants.{Ok}
 use Rattle.parity.specs.Shape.{cell_count}
 use Rattle.parity.specs.declared.Shape.{Shape}
 use Rattle.parity.proofs.Taken.{limits}
 use Rattle.shape.specs.Answers.{outcome_says}
 use Rattle.shape.specs.Shapes.{checked_says, sizes_if, sizes_of, Passed}
+use Rattle.shape.specs.declared.answer.Refusal.{Refusal}
 use Rattle.shape.specs.declared.sizes.Sizes.{Sizes}
-use Rattle.shape.specs.declared.sizes.Checked.{Checked}
-use Rattle.shape.specs.declared.sizes.Checked.TheVariants as checked
 use Rattle.shape.proofs.Refusals.{answer-taken, answer-refused}
 use Rattle.array_memory.specs.Blocks.{blocks_of}
 use Rattle.array_memory.specs.Memory.{with_all, no_memory}
 use Rattle.cycle.specs.Calls.{State, state_of}
 use Rattle.job_parse.specs.Parse.{job_shape, most_cells, job_questions, job_refusal}
-use Rattle.job_text.specs.Text.{head_text, rows_text}
+use Rattle.job_text.specs.Text.{refused_text, head_text, rows_text}
 use Rattle.job_text.specs.Written.{Wrote}
 use Rattle.job_text.proofs.Lengths.{head-short}
 use Rattle.job_text.proofs.Written.{wrote-append}
@@ -45,20 +46,20 @@ record Fits (input : List ℕ) (sp : Space) (sizes : Sizes) (s : Shape) : Type 0
 
 -- a job that is taken has no no, and its sizes are its shape's
 passed :
-    (input : List ℕ) (answer : Checked) (sizes : Sizes) → checked_says answer ≡ sizes_if (job_refusal input) (job_shape input)
-    → answer ≡ checked.Taken sizes → Passed (job_questions input) (job_shape input) sizes
+    (input : List ℕ) (answer : Answer Sizes Refusal) (sizes : Sizes) → checked_says answer ≡ sizes_if (job_refusal input) (job_shape input)
+    → answer ≡ Ok sizes → Passed (job_questions input) (job_shape input) sizes
 unfolding job_refusal
-passed input answer sizes e is = answer-taken (job_questions input) (job_shape input) answer e is
+passed input answer sizes e is = answer-taken (job_questions input) (job_shape input) e is
 
 refuses-none :
-    (input : List ℕ) (answer : Checked) (sizes : Sizes) → checked_says answer ≡ sizes_if (job_refusal input) (job_shape input)
-    → answer ≡ checked.Taken sizes → job_refusal input ≡ 0
+    (input : List ℕ) (answer : Answer Sizes Refusal) (sizes : Sizes) → checked_says answer ≡ sizes_if (job_refusal input) (job_shape input)
+    → answer ≡ Ok sizes → job_refusal input ≡ 0
 unfolding job_refusal
 refuses-none input answer sizes e is = (passed input answer sizes e is).none
 
 fits :
-    (input : List ℕ) (sp : Space) (long : Bool) (answer : Checked) (sizes : Sizes) (s : Shape) → long ≡ roomy sp → long ≡ true
-    → checked_says answer ≡ sizes_if (job_refusal input) (job_shape input) → answer ≡ checked.Taken sizes → s ≡ job_shape input
+    (input : List ℕ) (sp : Space) (long : Bool) (answer : Answer Sizes Refusal) (sizes : Sizes) (s : Shape) → long ≡ roomy sp → long ≡ true
+    → checked_says answer ≡ sizes_if (job_refusal input) (job_shape input) → answer ≡ Ok sizes → s ≡ job_shape input
     → Fits input sp sizes s
 unfolding blocks_of job_refusal
 fits input sp long answer sizes s has true_long e is same =
@@ -118,99 +119,99 @@ put_refusal-requires c =
     let wide : Room sp = room sp (sym c.has_room.ensures ∙ c.if-not-has_room.false) in
     omega (arith, wide.out)
 
-pub shape_of-shape-requires-in-Taken : goal.shape_of-shape-requires-in-Taken
-shape_of-shape-requires-in-Taken c =
-    omega (arith, (taken_job c.args.input.now (refuses-none c.args.input.now _ _ c.check_job.ensures c.in-Taken.is)).sized)
+pub shape_of-shape-requires-in-Ok : goal.shape_of-shape-requires-in-Ok
+shape_of-shape-requires-in-Ok c =
+    omega (arith, (taken_job c.args.input.now (refuses-none c.args.input.now _ _ c.check_job.ensures c.in-Ok.is)).sized)
 
 pub slice_bounds-run_calls-end : goal.slice_bounds-run_calls-end
 slice_bounds-run_calls-end c =
     let args = c.args in
     let sp : Space = space args.cells.now args.lines.now args.counters.now args.flags.now args.totals.now args.matches.now args.out.now in
-    let fit = fits args.input.now sp _ _ _ _ c.has_room.ensures c.if-not-has_room.false c.check_job.ensures c.in-Taken.is c.shape_of-shape.ensures in
+    let fit = fits args.input.now sp _ _ _ _ c.has_room.ensures c.if-not-has_room.false c.check_job.ensures c.in-Ok.is c.shape_of-shape.ensures in
     fit.cells
 
-pub slice_bounds-run_calls-end-in-Taken : goal.slice_bounds-run_calls-end-in-Taken
-slice_bounds-run_calls-end-in-Taken c =
+pub slice_bounds-run_calls-end-in-Ok : goal.slice_bounds-run_calls-end-in-Ok
+slice_bounds-run_calls-end-in-Ok c =
     let args = c.args in
     let sp : Space = space args.cells.now args.lines.now args.counters.now args.flags.now args.totals.now args.matches.now args.out.now in
-    let fit = fits args.input.now sp _ _ _ _ c.has_room.ensures c.if-not-has_room.false c.check_job.ensures c.in-Taken.is c.shape_of-shape.ensures in
+    let fit = fits args.input.now sp _ _ _ _ c.has_room.ensures c.if-not-has_room.false c.check_job.ensures c.in-Ok.is c.shape_of-shape.ensures in
     sym (length-take-le _ _ fit.cells)
 
-pub slice_bounds-run_calls-end-in-Taken-2 : goal.slice_bounds-run_calls-end-in-Taken-2
-slice_bounds-run_calls-end-in-Taken-2 c =
+pub slice_bounds-run_calls-end-in-Ok-2 : goal.slice_bounds-run_calls-end-in-Ok-2
+slice_bounds-run_calls-end-in-Ok-2 c =
     let args = c.args in
     let sp : Space = space args.cells.now args.lines.now args.counters.now args.flags.now args.totals.now args.matches.now args.out.now in
-    let fit = fits args.input.now sp _ _ _ _ c.has_room.ensures c.if-not-has_room.false c.check_job.ensures c.in-Taken.is c.shape_of-shape.ensures in
+    let fit = fits args.input.now sp _ _ _ _ c.has_room.ensures c.if-not-has_room.false c.check_job.ensures c.in-Ok.is c.shape_of-shape.ensures in
     fit.lines
 
-pub slice_bounds-run_calls-end-in-Taken-3 : goal.slice_bounds-run_calls-end-in-Taken-3
-slice_bounds-run_calls-end-in-Taken-3 c =
+pub slice_bounds-run_calls-end-in-Ok-3 : goal.slice_bounds-run_calls-end-in-Ok-3
+slice_bounds-run_calls-end-in-Ok-3 c =
     let args = c.args in
     let sp : Space = space args.cells.now args.lines.now args.counters.now args.flags.now args.totals.now args.matches.now args.out.now in
-    let fit = fits args.input.now sp _ _ _ _ c.has_room.ensures c.if-not-has_room.false c.check_job.ensures c.in-Taken.is c.shape_of-shape.ensures in
+    let fit = fits args.input.now sp _ _ _ _ c.has_room.ensures c.if-not-has_room.false c.check_job.ensures c.in-Ok.is c.shape_of-shape.ensures in
     sym (length-take-le _ _ fit.lines)
 
-pub slice_bounds-run_calls-end-in-Taken-4 : goal.slice_bounds-run_calls-end-in-Taken-4
-slice_bounds-run_calls-end-in-Taken-4 c =
+pub slice_bounds-run_calls-end-in-Ok-4 : goal.slice_bounds-run_calls-end-in-Ok-4
+slice_bounds-run_calls-end-in-Ok-4 c =
     let args = c.args in
     let sp : Space = space args.cells.now args.lines.now args.counters.now args.flags.now args.totals.now args.matches.now args.out.now in
-    let fit = fits args.input.now sp _ _ _ _ c.has_room.ensures c.if-not-has_room.false c.check_job.ensures c.in-Taken.is c.shape_of-shape.ensures in
+    let fit = fits args.input.now sp _ _ _ _ c.has_room.ensures c.if-not-has_room.false c.check_job.ensures c.in-Ok.is c.shape_of-shape.ensures in
     fit.counters
 
-pub slice_bounds-run_calls-end-in-Taken-5 : goal.slice_bounds-run_calls-end-in-Taken-5
-slice_bounds-run_calls-end-in-Taken-5 c =
+pub slice_bounds-run_calls-end-in-Ok-5 : goal.slice_bounds-run_calls-end-in-Ok-5
+slice_bounds-run_calls-end-in-Ok-5 c =
     let args = c.args in
     let sp : Space = space args.cells.now args.lines.now args.counters.now args.flags.now args.totals.now args.matches.now args.out.now in
-    let fit = fits args.input.now sp _ _ _ _ c.has_room.ensures c.if-not-has_room.false c.check_job.ensures c.in-Taken.is c.shape_of-shape.ensures in
+    let fit = fits args.input.now sp _ _ _ _ c.has_room.ensures c.if-not-has_room.false c.check_job.ensures c.in-Ok.is c.shape_of-shape.ensures in
     sym (length-take-le _ _ fit.counters)
 
-pub slice_bounds-run_calls-end-in-Taken-6 : goal.slice_bounds-run_calls-end-in-Taken-6
-slice_bounds-run_calls-end-in-Taken-6 c =
+pub slice_bounds-run_calls-end-in-Ok-6 : goal.slice_bounds-run_calls-end-in-Ok-6
+slice_bounds-run_calls-end-in-Ok-6 c =
     let args = c.args in
     let sp : Space = space args.cells.now args.lines.now args.counters.now args.flags.now args.totals.now args.matches.now args.out.now in
-    let fit = fits args.input.now sp _ _ _ _ c.has_room.ensures c.if-not-has_room.false c.check_job.ensures c.in-Taken.is c.shape_of-shape.ensures in
+    let fit = fits args.input.now sp _ _ _ _ c.has_room.ensures c.if-not-has_room.false c.check_job.ensures c.in-Ok.is c.shape_of-shape.ensures in
     fit.flags
 
-pub slice_bounds-run_calls-end-in-Taken-7 : goal.slice_bounds-run_calls-end-in-Taken-7
-slice_bounds-run_calls-end-in-Taken-7 c =
+pub slice_bounds-run_calls-end-in-Ok-7 : goal.slice_bounds-run_calls-end-in-Ok-7
+slice_bounds-run_calls-end-in-Ok-7 c =
     let args = c.args in
     let sp : Space = space args.cells.now args.lines.now args.counters.now args.flags.now args.totals.now args.matches.now args.out.now in
-    let fit = fits args.input.now sp _ _ _ _ c.has_room.ensures c.if-not-has_room.false c.check_job.ensures c.in-Taken.is c.shape_of-shape.ensures in
+    let fit = fits args.input.now sp _ _ _ _ c.has_room.ensures c.if-not-has_room.false c.check_job.ensures c.in-Ok.is c.shape_of-shape.ensures in
     sym (length-take-le _ _ fit.flags)
 
-pub slice_bounds-run_calls-end-in-Taken-8 : goal.slice_bounds-run_calls-end-in-Taken-8
-slice_bounds-run_calls-end-in-Taken-8 c =
+pub slice_bounds-run_calls-end-in-Ok-8 : goal.slice_bounds-run_calls-end-in-Ok-8
+slice_bounds-run_calls-end-in-Ok-8 c =
     let args = c.args in
     let sp : Space = space args.cells.now args.lines.now args.counters.now args.flags.now args.totals.now args.matches.now args.out.now in
-    let fit = fits args.input.now sp _ _ _ _ c.has_room.ensures c.if-not-has_room.false c.check_job.ensures c.in-Taken.is c.shape_of-shape.ensures in
+    let fit = fits args.input.now sp _ _ _ _ c.has_room.ensures c.if-not-has_room.false c.check_job.ensures c.in-Ok.is c.shape_of-shape.ensures in
     fit.totals _ c.block_count-blocks.ensures
 
-pub slice_bounds-run_calls-end-in-Taken-9 : goal.slice_bounds-run_calls-end-in-Taken-9
-slice_bounds-run_calls-end-in-Taken-9 c =
+pub slice_bounds-run_calls-end-in-Ok-9 : goal.slice_bounds-run_calls-end-in-Ok-9
+slice_bounds-run_calls-end-in-Ok-9 c =
     let args = c.args in
     let sp : Space = space args.cells.now args.lines.now args.counters.now args.flags.now args.totals.now args.matches.now args.out.now in
-    let fit = fits args.input.now sp _ _ _ _ c.has_room.ensures c.if-not-has_room.false c.check_job.ensures c.in-Taken.is c.shape_of-shape.ensures in
+    let fit = fits args.input.now sp _ _ _ _ c.has_room.ensures c.if-not-has_room.false c.check_job.ensures c.in-Ok.is c.shape_of-shape.ensures in
     sym (length-take-le _ _ (fit.totals _ c.block_count-blocks.ensures))
 
-pub slice_bounds-run_calls-end-in-Taken-10 : goal.slice_bounds-run_calls-end-in-Taken-10
-slice_bounds-run_calls-end-in-Taken-10 c =
+pub slice_bounds-run_calls-end-in-Ok-10 : goal.slice_bounds-run_calls-end-in-Ok-10
+slice_bounds-run_calls-end-in-Ok-10 c =
     let args = c.args in
     let sp : Space = space args.cells.now args.lines.now args.counters.now args.flags.now args.totals.now args.matches.now args.out.now in
-    let fit = fits args.input.now sp _ _ _ _ c.has_room.ensures c.if-not-has_room.false c.check_job.ensures c.in-Taken.is c.shape_of-shape.ensures in
+    let fit = fits args.input.now sp _ _ _ _ c.has_room.ensures c.if-not-has_room.false c.check_job.ensures c.in-Ok.is c.shape_of-shape.ensures in
     fit.matches
 
-pub slice_bounds-run_calls-end-in-Taken-11 : goal.slice_bounds-run_calls-end-in-Taken-11
-slice_bounds-run_calls-end-in-Taken-11 c =
+pub slice_bounds-run_calls-end-in-Ok-11 : goal.slice_bounds-run_calls-end-in-Ok-11
+slice_bounds-run_calls-end-in-Ok-11 c =
     let args = c.args in
     let sp : Space = space args.cells.now args.lines.now args.counters.now args.flags.now args.totals.now args.matches.now args.out.now in
-    let fit = fits args.input.now sp _ _ _ _ c.has_room.ensures c.if-not-has_room.false c.check_job.ensures c.in-Taken.is c.shape_of-shape.ensures in
+    let fit = fits args.input.now sp _ _ _ _ c.has_room.ensures c.if-not-has_room.false c.check_job.ensures c.in-Ok.is c.shape_of-shape.ensures in
     sym (length-take-le _ _ fit.matches)
 
 pub run_calls-ended-requires-clause-rows_lent : goal.run_calls-ended-requires-clause-rows_lent
 run_calls-ended-requires-clause-rows_lent c =
     let args = c.args in
     let sp : Space = space args.cells.now args.lines.now args.counters.now args.flags.now args.totals.now args.matches.now args.out.now in
-    let fit = fits args.input.now sp _ _ _ _ c.has_room.ensures c.if-not-has_room.false c.check_job.ensures c.in-Taken.is c.shape_of-shape.ensures in
+    let fit = fits args.input.now sp _ _ _ _ c.has_room.ensures c.if-not-has_room.false c.check_job.ensures c.in-Ok.is c.shape_of-shape.ensures in
     record {
       memory =
           record {
@@ -230,24 +231,24 @@ pub put_head-head-requires : goal.put_head-head-requires
 put_head-head-requires c =
     let args = c.args in
     let sp : Space = space args.cells.now args.lines.now args.counters.now args.flags.now args.totals.now args.matches.now args.out.now in
-    let fit = fits args.input.now sp _ _ _ _ c.has_room.ensures c.if-not-has_room.false c.check_job.ensures c.in-Taken.is c.shape_of-shape.ensures in
+    let fit = fits args.input.now sp _ _ _ _ c.has_room.ensures c.if-not-has_room.false c.check_job.ensures c.in-Ok.is c.shape_of-shape.ensures in
     omega (arith, fit.out)
 
 pub slice_bounds-put_rows-end : goal.slice_bounds-put_rows-end
 slice_bounds-put_rows-end c =
     let args = c.args in
     let sp : Space = space args.cells.now args.lines.now args.counters.now args.flags.now args.totals.now args.matches.now args.out.now in
-    let fit = fits args.input.now sp _ _ _ _ c.has_room.ensures c.if-not-has_room.false c.check_job.ensures c.in-Taken.is c.shape_of-shape.ensures in
+    let fit = fits args.input.now sp _ _ _ _ c.has_room.ensures c.if-not-has_room.false c.check_job.ensures c.in-Ok.is c.shape_of-shape.ensures in
     let run = c.run_calls-ended in
     let rows = c.shape_of-shape.result.rows in
     let part : length run.new.flags ≡ rows = front run.new.flags rows args.flags.now run.auto.flags fit.flags in
     omega (arith, length-append run.new.flags (drop rows args.flags.now))
 
-pub slice_bounds-put_rows-end-in-Taken : goal.slice_bounds-put_rows-end-in-Taken
-slice_bounds-put_rows-end-in-Taken c =
+pub slice_bounds-put_rows-end-in-Ok : goal.slice_bounds-put_rows-end-in-Ok
+slice_bounds-put_rows-end-in-Ok c =
     let args = c.args in
     let sp : Space = space args.cells.now args.lines.now args.counters.now args.flags.now args.totals.now args.matches.now args.out.now in
-    let fit = fits args.input.now sp _ _ _ _ c.has_room.ensures c.if-not-has_room.false c.check_job.ensures c.in-Taken.is c.shape_of-shape.ensures in
+    let fit = fits args.input.now sp _ _ _ _ c.has_room.ensures c.if-not-has_room.false c.check_job.ensures c.in-Ok.is c.shape_of-shape.ensures in
     let run = c.run_calls-ended in
     let rows = c.shape_of-shape.result.rows in
     let part : length run.new.flags ≡ rows = front run.new.flags rows args.flags.now run.auto.flags fit.flags in
@@ -257,7 +258,7 @@ pub put_rows-requires : goal.put_rows-requires
 put_rows-requires c =
     let args = c.args in
     let sp : Space = space args.cells.now args.lines.now args.counters.now args.flags.now args.totals.now args.matches.now args.out.now in
-    let fit = fits args.input.now sp _ _ _ _ c.has_room.ensures c.if-not-has_room.false c.check_job.ensures c.in-Taken.is c.shape_of-shape.ensures in
+    let fit = fits args.input.now sp _ _ _ _ c.has_room.ensures c.if-not-has_room.false c.check_job.ensures c.in-Ok.is c.shape_of-shape.ensures in
     let run = c.run_calls-ended in
     let rows = c.shape_of-shape.result.rows in
     let part : length run.new.flags ≡ rows = front run.new.flags rows args.flags.now run.auto.flags fit.flags in
@@ -266,34 +267,34 @@ put_rows-requires c =
     omega (arith, fit.few, fit.out, c.put_head-head.auto.out)
 
 -- refused
-pub returns-in-Refused : goal.returns-in-Refused
+pub returns-in-Err : goal.returns-in-Err
 unfolding job_refusal
-returns-in-Refused c =
+returns-in-Err c =
     let args = c.args in
     let sp : Space = space args.cells.now args.lines.now args.counters.now args.flags.now args.totals.now args.matches.now args.out.now in
     let input = args.input.now in
-    refused-job input sp (sym c.has_room.ensures ∙ c.if-not-has_room.false) c.in-Refused.number
-    (answer-refused (job_questions input) (job_shape input) c.check_job.result c.check_job.ensures c.in-Refused.number c.in-Refused.is)
-    c.put_refusal.ensures
+    refused-job input sp (sym c.has_room.ensures ∙ c.if-not-has_room.false) _
+    (answer-refused (job_questions input) (job_shape input) c.check_job.ensures c.in-Err.is)
+    (subst (λ n. Wrote 0 (refused_text n) args.out.now c.put_refusal.result c.put_refusal.new.out) c.number.ensures c.put_refusal.ensures)
 
 -- run and reported
-pub returns-in-Taken : goal.returns-in-Taken
-returns-in-Taken c =
+pub returns-in-Ok : goal.returns-in-Ok
+returns-in-Ok c =
     let args = c.args in
     let sp : Space = space args.cells.now args.lines.now args.counters.now args.flags.now args.totals.now args.matches.now args.out.now in
-    let fit = fits args.input.now sp _ _ _ _ c.has_room.ensures c.if-not-has_room.false c.check_job.ensures c.in-Taken.is c.shape_of-shape.ensures in
+    let fit = fits args.input.now sp _ _ _ _ c.has_room.ensures c.if-not-has_room.false c.check_job.ensures c.in-Ok.is c.shape_of-shape.ensures in
     let run = c.run_calls-ended in
     let left = run.new in
     let s = c.shape_of-shape.result in
     let st : State = state_of (with_all left.cells left.lines left.counters left.flags left.totals no_memory) run.result.cycle in
-    let cells : length left.cells ≡ c.in-Taken.sizes.cells = front left.cells _ _ run.auto.cells fit.cells in
+    let cells : length left.cells ≡ c.in-Ok.sizes.cells = front left.cells _ _ run.auto.cells fit.cells in
     let lines : length left.lines ≡ s.rows = front left.lines _ _ run.auto.lines fit.lines in
     let counters : length left.counters ≡ s.rows = front left.counters _ _ run.auto.counters fit.counters in
     let flags : length left.flags ≡ s.rows = front left.flags _ _ run.auto.flags fit.flags in
     let totals : length left.totals ≡ c.block_count-blocks.result
     = front left.totals _ _ run.auto.totals (fit.totals _ c.block_count-blocks.ensures) in
     let matches : length left.matches ≡ s.rows = front left.matches _ _ run.auto.matches fit.matches in
-    let text = report args.input.now args.out.now s c.in-Taken.sizes st _ _ _ _ _ c.shape_of-shape.ensures fit.known
+    let text = report args.input.now args.out.now s c.in-Ok.sizes st _ _ _ _ _ c.shape_of-shape.ensures fit.known
     (take_at left.flags (drop s.rows args.flags.now) s.rows flags) flags fit.out c.put_head-head.ensures c.put_rows.ensures in
     taken-job args.input.now sp (sym c.has_room.ensures ∙ c.if-not-has_room.false) fit.none (outcome_says run.result.outcome) left.matches st
     run.ensures text

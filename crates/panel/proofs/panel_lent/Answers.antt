@@ -1,30 +1,28 @@
 -- `panel::panel_lent` meets its contract: the first block whose total isn't 0 is the part of the flags that is searched. Assumes nothing.
 use mathlib.Core.Path.{◌≡◌, refl, sym, ◌∙◌, ap}
-use mathlib.Core.Bool.{Bool, true, false, cond}
 use mathlib.Core.List.{List, [], ◌∷◌}
-use Prim.Native.Nat.{ℕ, suc, ◌+◌, ◌-◌, ◌*◌, ◌≤◌, ◌<◌}
+use Prim.Native.Nat.{ℕ, ◌-◌, ◌*◌, ◌≤◌, ◌<◌}
 use native.Mathlib.Omega.{arith}
 use lib.Dec.{lit<}
 use lib.ListN.{length}
 use borrow.Rule.Slice.PartMut.{mid_of}
-use borrow.Author.Tests.{not-true, not-false, lt-ltb, le-ltb}
+use borrow.Author.Tests.{lt-ltb, le-ltb}
+use Rattle.std.proofs.Common.{Option, position}
 use Rattle.parity.specs.Lists.{sum_over}
 use Rattle.parity.specs.Questions.{first_no, lengths_question}
 use Rattle.parity.specs.declared.Shape.{Shape}
 use Rattle.parity.proofs.Taken.{limits}
-use Rattle.shape.specs.Answers.{Found, row, none, accepted, answering}
+use Rattle.shape.specs.Answers.{none, accepted, answering}
 use Rattle.shape.proofs.Refusals.{call-passed}
-use Rattle.array_memory.specs.Blocks.{blocks_of, block_at, block_end}
+use Rattle.array_memory.specs.Blocks.{blocks_of, block_end, is_flagged}
 use Rattle.array_memory.specs.Lengths.{flagged_wanted}
 use Rattle.array_memory.specs.Memory.{Memory, with_flagged}
 use Rattle.array_memory.proofs.Asked.{flagged-counted}
 use Rattle.array_memory.proofs.BlockPlaces.{block-starts, blocks-few, block-part}
 use Rattle.panel.specs.Panel.{Reading, reading, no_reading, first_nonzero, panel_questions, panel_reading, panel_call}
-use Rattle.panel.specs.Reads.{summed, searched}
+use Rattle.panel.specs.Reads.{summed}
 use Rattle.panel.specs.declared.Totals.{Totals}
-use Rattle.panel.specs.declared.Search.{Search}
-use Rattle.panel.proofs.Searches.{found-any, found-read}
-use Rattle.panel.proofs.Readings.{reads_none, reads-block}
+use Rattle.panel.proofs.Readings.{reads_none, reads-block, told_by}
 use Rattle.panel.proofs.panel_lent.Goals as goal
 
 -- what the questions that were passed say of the lengths of flags and totals
@@ -74,31 +72,20 @@ module _ (s : Shape) (flags totals : List ℕ) (asked : first_no (panel_question
             few = given.few;
           }
 
-      -- the part that is searched is that block
-      abbrev block : List ℕ
-      block = block_at flags (first_nonzero totals)
+      module _ (end : ℕ) (ends : end ≡ block_end (all.block * 64) (length flags)) where
+        abbrev lent : List ℕ
+        lent = mid_of (all.block * 64) (end - all.block * 64) flags
 
-      module _ (end : ℕ) (ends : end ≡ block_end (all.block * 64) (length flags)) (search : Search)
-          (found : search ≡ searched (mid_of (all.block * 64) (end - all.block * 64) flags)) where
-        lent : search ≡ searched block
-        lent = found ∙ ap searched (block-part flags (first_nonzero totals) (all.block * 64) end place.starts ends)
-
-        -- what is told of it, by whether it has a flag
+        -- what a search through what is lent of the flags tells
         told :
-            (b : Bool) → search.found ≡ b → {first : Found} → first ≡ cond b (row (first_nonzero totals * 64 + first_nonzero block)) none
-            → (mem : Memory) → panel_call s (with_flagged flags totals mem) ≡ accepted (reading all.sum first search.read)
-        told b f same =
+            (found : Option ℕ) → found ≡ position is_flagged lent
+            → (mem : Memory) → panel_call s (with_flagged flags totals mem) ≡ accepted (told_by all.sum (all.block * 64) lent found)
+        told found searched =
             says
-            (reads-block flags totals added (lt-ltb (first_nonzero totals) (length totals) place.within) b (found-any block search lent b f) same
-            (found-read block search lent b f))
-
-        -- the first flagged row, where one was found
-        told-row :
-            (row' : ℕ) → search.found ≡ true → row' ≡ all.block * 64 + search.read - 1
-            → (mem : Memory) → panel_call s (with_flagged flags totals mem) ≡ accepted (reading all.sum (row row') search.read)
-        told-row row' f at =
-            let count : search.read ≡ suc (first_nonzero block) = found-read block search lent true f in
-            told true f (ap row (omega (arith, at, count, place.starts)))
+            (ap (told_by all.sum (all.block * 64) lent) searched
+            ∙ ap (λ part. told_by all.sum (all.block * 64) part (position is_flagged part))
+            (block-part flags (first_nonzero totals) (all.block * 64) end place.starts ends)
+            ∙ reads-block flags totals added (lt-ltb (first_nonzero totals) (length totals) place.within) place.starts)
 
 -- ---- the needs
 
@@ -123,26 +110,24 @@ block_end-end-requires c =
     let at = place c.args.shape c.args.flags.now c.args.totals.now c.requires.none c.sum_totals-all.result c.sum_totals-all.ensures c.if-totals-all.false in
     omega (arith, at.starts, at.inside)
 
-pub slice_bounds-search_block-count : goal.slice_bounds-search_block-count
-slice_bounds-search_block-count c =
+pub slice_bounds-block-count : goal.slice_bounds-block-count
+slice_bounds-block-count c =
     let at = place c.args.shape c.args.flags.now c.args.totals.now c.requires.none c.sum_totals-all.result c.sum_totals-all.ensures c.if-totals-all.false in
     omega (arith, c.block_end-end.ensures, at.starts, at.inside)
 
-pub slice_bounds-search_block-start : goal.slice_bounds-search_block-start
-slice_bounds-search_block-start c =
+pub slice_bounds-block-start : goal.slice_bounds-block-start
+slice_bounds-block-start c =
     let at = place c.args.shape c.args.flags.now c.args.totals.now c.requires.none c.sum_totals-all.result c.sum_totals-all.ensures c.if-totals-all.false in
     omega (arith, c.block_end-end.ensures, at.starts, at.inside)
 
 -- no flag is up
-pub returns-then-not-search : goal.returns-then-not-search
-returns-then-not-search c =
+pub returns-in-None : goal.returns-in-None
+returns-in-None c =
     told c.args.shape c.args.flags.now c.args.totals.now c.requires.none c.sum_totals-all.result c.sum_totals-all.ensures c.if-totals-all.false
-    c.block_end-end.result c.block_end-end.ensures c.search_block-search.result c.search_block-search.ensures
-    false (not-true c.search_block-search.result.found c.if-not-search.true) refl
+    c.block_end-end.result c.block_end-end.ensures _ c.in-None.ensures
 
 -- the first flagged row
-pub returns : goal.returns
-returns c =
-    told-row c.args.shape c.args.flags.now c.args.totals.now c.requires.none c.sum_totals-all.result c.sum_totals-all.ensures c.if-totals-all.false
-    c.block_end-end.result c.block_end-end.ensures c.search_block-search.result c.search_block-search.ensures
-    _ (not-false c.search_block-search.result.found c.if-not-search.false) refl
+pub returns-in-Some : goal.returns-in-Some
+returns-in-Some c =
+    told c.args.shape c.args.flags.now c.args.totals.now c.requires.none c.sum_totals-all.result c.sum_totals-all.ensures c.if-totals-all.false
+    c.block_end-end.result c.block_end-end.ensures _ c.in-Some.ensures

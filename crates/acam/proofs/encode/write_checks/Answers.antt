@@ -5,31 +5,25 @@ use mathlib.Core.List.{List, ◌++◌}
 use Prim.Native.Nat.{ℕ, ◌≤◌}
 use native.Mathlib.Omega.{arith}
 use lib.ListN.{length, take, drop, length-append}
-use lib.Seq.{take_at}
 use Rattle.parity.specs.Shape.{checks}
 use Rattle.parity.specs.Matrix.{rule_columns}
 use Rattle.parity.specs.Questions.{Taken}
 use Rattle.parity.specs.declared.Shape.{Shape}
-use Rattle.parity.proofs.MatrixFacts.{rules-sized}
-use Rattle.acam.proofs.MatrixArray.{zeros, fits, front, rules-fill, rules-ask}
+use Rattle.acam.proofs.MatrixArray.{zeros, fits, front, rules-ask, are-rules, rules-long, rules-held}
 use Rattle.acam.proofs.encode.write_checks.Goals as goal
 
--- once the columns are made in the array
-module _ (s : Shape) (t : Taken s) (r : ℕ) (counted : r ≡ checks s) where
-  -- k columns fit into it
-  room : s.width ≤ 255
-  room = omega (arith, fits s t r counted)
+-- k columns fit into the array
+room : (s : Shape) → Taken s → (r : ℕ) → r ≡ checks s → s.width ≤ 255
+room s t r counted = omega (arith, fits s t r counted)
 
-  module _ (made : List ℕ) (filled : made ≡ rule_columns s.errors r (length (take s.width zeros))) where
-    are-rules : made ≡ rule_columns s.errors (checks s) s.width
-    are-rules = filled ∙ rules-fill s t r counted zeros room
+-- the columns that are made in it
+module _ (s : Shape) (t : Taken s) (r : ℕ) (counted : r ≡ checks s) (made : List ℕ)
+    (filled : made ≡ rule_columns s.errors r (length (take s.width zeros))) where
+  sized : length made ≡ s.width
+  sized = rules-long s t r counted zeros (room s t r counted) made filled
 
-    sized : length made ≡ s.width
-    sized = ap length are-rules ∙ rules-sized s t
-
-    -- the part of the array that holds them
-    part : take s.width (made ++ drop s.width zeros) ≡ made
-    part = take_at made (drop s.width zeros) s.width sized
+  part : take s.width (made ++ drop s.width zeros) ≡ made
+  part = rules-held s t r counted zeros (room s t r counted) made filled
 
 pub slice_bounds-rules-end : goal.slice_bounds-rules-end
 slice_bounds-rules-end c = room c.args.shape c.requires.taken c.args.checks c.requires.checks
@@ -66,5 +60,6 @@ write_digits-requires c =
     let s = c.args.shape in
     let made = c.fill_rules.new.part in
     let held = part s c.requires.taken c.args.checks c.requires.checks made c.fill_rules.ensures in
-    let filled = are-rules s c.requires.taken c.args.checks c.requires.checks made c.fill_rules.ensures in
+    let filled =
+    are-rules s c.requires.taken c.args.checks c.requires.checks zeros (room s c.requires.taken c.args.checks c.requires.checks) made c.fill_rules.ensures in
     record { taken = c.requires.taken; cells = c.requires.columns; rules = held ∙ filled }

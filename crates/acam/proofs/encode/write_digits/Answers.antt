@@ -19,7 +19,7 @@ use Rattle.parity.proofs.Redundancy.{redundancy_claim}
 use Rattle.parity.proofs.MatrixFacts.{rules-sized}
 use Rattle.parity.proofs.Sizes.{columns-high}
 use Rattle.acam.proofs.Tail.{tail-is, tail-put}
-use Rattle.acam.proofs.DigitLoop.{power-high, power-next, power-fits, sum-at}
+use Rattle.acam.proofs.DigitLoop.{power-high, power-next, power-fits, sums-ask, sum-at}
 use Rattle.acam.specs.Digits.{missing}
 use Rattle.acam.proofs.DigitCells.{cell_at, no-digits, cell_below, next-digit, all_digits}
 use Rattle.acam.proofs.encode.write_digits.Goals as goal
@@ -83,70 +83,41 @@ module _ (shape : Shape) (taken : Taken shape) (cs row₀ : List ℕ) (sized : l
       let few : checks shape ≤ 8 = (redundancy_claim shape taken).high in
       record { powered = powered; fits = omega arith; few = omega arith; kept = kept; cells = cells; summed = summed }
 
-pub slice_bounds-fill-count : goal.slice_bounds-fill-count
+pub loop-init : goal.loop-init
 unfolding columns
-slice_bounds-fill-count c = omega arith
-
-pub slice_bounds-fill-start : goal.slice_bounds-fill-start
-unfolding columns
-slice_bounds-fill-start c = omega arith
-
-pub loop-s-init : goal.loop-s-init
-unfolding columns
-loop-s-init c =
+loop-init c =
     let args = c.args in
     let k = args.shape.width in
     let row = args.row.now in
-    let start = first k row c.fill.new.part in
+    let start = first k row c.fill.new.self in
     let many : length (mid_of k (length row - k) row) ≡ length start - k = omega (arith, mid_len k (length row) row (le_refl (length row))) in (
-      omega arith,
       sym (pow-zero args.shape.radix),
       refl,
       refl,
-      tail-put k row c.fill.new.part (omega arith) ∙ c.fill.ensures
+      tail-put k row c.fill.new.self (omega arith) ∙ c.fill.ensures.after (λ y e. e)
           ∙ no-digits args.shape.radix (take k args.rules.now) (take k start) (length (mid_of k (length row - k) row))
           ∙ ap (λ r. tabulate r (cell_at args.shape.radix (take k args.rules.now) (take k start) 0)) many,
     )
-
-pub slice_bounds-floor_sums-end : goal.slice_bounds-floor_sums-end
-unfolding columns
-slice_bounds-floor_sums-end c = omega arith
-
-pub slice_bounds-floor_sums-end-in-loop-s : goal.slice_bounds-floor_sums-end-in-loop-s
-unfolding columns
-slice_bounds-floor_sums-end-in-loop-s c = sym (length-take-le c.args.shape.width c.loop-s.row (omega arith))
 
 pub floor_sums-sums-requires : goal.floor_sums-sums-requires
 unfolding columns
 floor_sums-sums-requires c =
     let shape = c.args.shape in
     let taken = c.requires.taken in
-    let loop = c.loop-s in
+    let loop = c.loop in
     let each : length c.args.rules.now ≡ shape.width = ap length c.requires.rules ∙ rules-sized shape taken in
-    let fits = power-fits shape taken loop.s loop.power loop.invariant.1 (omega arith) in
-    record {
-      divisor = record { low = omega arith; high = omega arith };
-      columns = omega (arith, length-take shape.width loop.row);
-      few = omega (arith, columns-high shape taken);
-    }
-
-pub slice_bounds-add_check_digits-count : goal.slice_bounds-add_check_digits-count
-unfolding columns
-slice_bounds-add_check_digits-count c = omega arith
-
-pub slice_bounds-add_check_digits-start : goal.slice_bounds-add_check_digits-start
-unfolding columns
-slice_bounds-add_check_digits-start c = omega arith
+    sums-ask shape taken loop.counter loop.power loop.invariant.0 (omega arith) _ _ (omega (arith, length-take shape.width loop.row))
+    (omega (arith, columns-high shape taken))
 
 pub add_check_digits-requires : goal.add_check_digits-requires
 unfolding lent
 add_check_digits-requires c =
     let shape = c.args.shape in
     let taken = c.requires.taken in
-    let loop = c.loop-s in
-    let start = first shape.width c.args.row.now c.fill.new.part in
-    let t = turn shape taken c.args.rules.now start (omega arith) loop.s loop.power loop.row c.floor_sums-sums.result
-    loop.invariant.1 (omega arith) loop.invariant.3 loop.invariant.4 c.floor_sums-sums.ensures in
+    let loop = c.loop in
+    let start = first shape.width c.args.row.now c.fill.new.self in
+    let t = turn shape taken c.args.rules.now start (omega arith) loop.counter loop.power loop.row c.floor_sums-sums.result
+    loop.invariant.0 (omega arith) loop.invariant.2 loop.invariant.3 c.floor_sums-sums.ensures in
     let pos : 0 < shape.radix = omega (arith, (limits shape taken).radix_low) in
     record {
       radix = record { low = pos; high = omega (arith, limits shape taken) };
@@ -154,31 +125,30 @@ add_check_digits-requires c =
       room = λ l h. omega (
         arith,
         added t l (omega (arith, lent_length t)),
-        cell_below shape.radix (take shape.width c.args.rules.now) (take shape.width start) (suc loop.s) l pos,
-        power-high shape taken loop.s (omega arith),
+        cell_below shape.radix (take shape.width c.args.rules.now) (take shape.width start) (suc loop.counter) l pos,
+        power-high shape taken loop.counter (omega arith),
       );
     }
 
 pub overflow_mul-power : goal.overflow_mul-power
 overflow_mul-power c =
-    let loop = c.loop-s in
-    omega (arith, power-fits c.args.shape c.requires.taken loop.s loop.power loop.invariant.1 (omega arith))
+    let loop = c.loop in
+    omega (arith, power-fits c.args.shape c.requires.taken loop.counter loop.power loop.invariant.0 (omega arith))
 
-pub loop-s-preserved : goal.loop-s-preserved
+pub loop-preserved : goal.loop-preserved
 unfolding lent
-loop-s-preserved c =
+loop-preserved c =
     let shape = c.args.shape in
     let taken = c.requires.taken in
-    let loop = c.loop-s in
+    let loop = c.loop in
     let k = shape.width in
-    let start = first k c.args.row.now c.fill.new.part in
+    let start = first k c.args.row.now c.fill.new.self in
     let last = c.add_check_digits.new.cells in
-    let t = turn shape taken c.args.rules.now start (omega arith) loop.s loop.power loop.row c.floor_sums-sums.result
-    loop.invariant.1 (omega arith) loop.invariant.3 loop.invariant.4 c.floor_sums-sums.ensures in (
+    let t = turn shape taken c.args.rules.now start (omega arith) loop.counter loop.power loop.row c.floor_sums-sums.result
+    loop.invariant.0 (omega arith) loop.invariant.2 loop.invariant.3 c.floor_sums-sums.ensures in (
+      power-next shape taken loop.counter loop.power loop.invariant.0,
       omega arith,
-      power-next shape taken loop.s loop.power loop.invariant.1,
-      omega arith,
-      take_put k (length loop.row - k) loop.row last t.fits ∙ loop.invariant.3,
+      take_put k (length loop.row - k) loop.row last t.fits ∙ loop.invariant.2,
       turned t last c.add_check_digits.ensures,
     )
 
@@ -187,14 +157,14 @@ unfolding columns
 returns c =
     let shape = c.args.shape in
     let taken = c.requires.taken in
-    let loop = c.loop-s in
+    let loop = c.loop in
     let k = shape.width in
     let row = c.args.row.now in
-    let start = first k row c.fill.new.part in
+    let start = first k row c.fill.new.self in
     let each : length c.args.rules.now ≡ k = ap length c.requires.rules ∙ rules-sized shape taken in
-    let rule : take k start ≡ take k row = take_put k (length row - k) row c.fill.new.part (omega arith) in
+    let rule : take k start ≡ take k row = take_put k (length row - k) row c.fill.new.self (omega arith) in
     let cs = take_all k c.args.rules.now (omega arith) ∙ c.requires.rules in
     let r : length start - k ≡ checks shape = omega arith in
-    let all : loop.s ≡ shape.digits = omega arith in
-    all_digits shape taken (take k row) loop.row (length-take-le k row (omega arith)) (loop.invariant.3 ∙ rule)
-    (loop.invariant.4 ∙ (λ i. tabulate (r i) (cell_at shape.radix (cs i) (rule i) (all i))))
+    let all : loop.counter ≡ shape.digits = omega arith in
+    all_digits shape taken (take k row) loop.row (length-take-le k row (omega arith)) (loop.invariant.2 ∙ rule)
+    (loop.invariant.3 ∙ (λ i. tabulate (r i) (cell_at shape.radix (cs i) (rule i) (all i))))

@@ -9,4 +9,4 @@ use Rattle.acam.proofs.matrix.fill_checks.Goals as goal
 pub returns : goal.returns
 unfolding check_columns
 returns c =
-    c.loop-l.invariant.2 ∙ filled-all (λ ℓ. 2 ^ ℓ) c.args.part.now c.loop-l.l (omega arith)
+    c.loop-l.invariant ∙ filled-all (λ ℓ. 2 ^ ℓ) c.args.part.now c.loop-l.l (omega arith)

@@ -15,8 +15,7 @@ use Rattle.parity.specs.Matrix.{column_order, eligible}
 use Rattle.parity.proofs.ListLaws.{get_or-tabulate}
 use Rattle.parity.proofs.ColumnOrder.{order_claim}
 use Rattle.acam.specs.Matrices.{rule_weight}
-use Rattle.acam.proofs.Blocks.{start, choice, count, start-end, count_fits, block-kept, block-length}
-use Rattle.acam.proofs.Blocks.{goes, goes-next, goes-full, goes-ended}
+use Rattle.acam.proofs.Blocks.{start, choice, count, start-end, count_fits, block-kept, block-length, goes, goes-next, goes-full, goes-ended}
 use Rattle.acam.proofs.matrix.fill_lightest.Goals as goal
 
 -- the block is as long as the weight has eligible columns
@@ -45,12 +44,13 @@ laid order part last place n found e =
 
 -- with a weight's block in it the part will be the same
 stepped :
-    (τ r w place found n : ℕ) (order part last : List ℕ) → r ≤ 8 → w < 8 → order ≡ column_order → n ≡ count τ r w → place ≡ start w
-    → found ≤ length part
+    (τ r w place found n : ℕ) (below order part last : List ℕ) → r ≤ 8 → w < 8 → below ≡ tabulate 8 (choice r) → order ≡ column_order
+    → n ≡ cond (rule_weight τ (w + 1)) (get_or below w 0) 0 → place ≡ start w → found ≤ length part
     → last ≡ filled_from (take (place + n - place) (drop place order)) (take (length part - found) (drop found part))
     → goes (keep (eligible τ r) (drop (start (suc w)) column_order)) (put_mid found (length part - found) part last) (found + n)
     ≡ goes (keep (eligible τ r) (drop place column_order)) part found
-stepped τ r w place found n order part last rows weights is many at room copied =
+stepped τ r w place found n below order part last rows weights listed is counts at room copied =
+    let many = counted τ r w n below weights listed counts in
     let p : ℕ → Bool = eligible τ r in
     let rest : List ℕ = keep p (drop (start (suc w)) column_order) in
     let block : List ℕ = take (count τ r w) (drop (start w) column_order) in
@@ -77,11 +77,10 @@ returns-then-part-found c =
     let r = c.args.checks in
     let at = c.loop-w in
     let n = c.count_rules-count.result in
-    let many = counted τ r at.w n c.choices-below.result (omega arith) c.choices-below.ensures c.count_rules-count.ensures in
-    let step = stepped τ r at.w at.place at.found n c.column_order-order.result at.part c.copy.new.to (omega arith) (omega arith)
-    c.column_order-order.ensures many at.invariant.1 at.invariant.2 c.copy.ensures in
+    let step = stepped τ r at.w at.place at.found n c.choices-below.result c.column_order-order.result at.part c.copy.new.to (omega arith) (omega arith)
+    c.choices-below.ensures c.column_order-order.ensures c.count_rules-count.ensures at.invariant.0 at.invariant.1 c.copy.ensures in
     let written = put_mid at.found (length at.part - at.found) at.part c.copy.new.to in
-    sym (goes-full (keep (eligible τ r) (drop (start (suc at.w)) column_order)) written (at.found + n) (omega arith)) ∙ step ∙ at.invariant.4
+    sym (goes-full (keep (eligible τ r) (drop (start (suc at.w)) column_order)) written (at.found + n) (omega arith)) ∙ step ∙ at.invariant.3
 
 pub loop-w-preserved : goal.loop-w-preserved
 loop-w-preserved c =
@@ -89,17 +88,15 @@ loop-w-preserved c =
     let r = c.args.checks in
     let at = c.loop-w in
     let n = c.count_rules-count.result in
-    let many = counted τ r at.w n c.choices-below.result (omega arith) c.choices-below.ensures c.count_rules-count.ensures in
-    let step = stepped τ r at.w at.place at.found n c.column_order-order.result at.part c.copy.new.to (omega arith) (omega arith)
-    c.column_order-order.ensures many at.invariant.1 at.invariant.2 c.copy.ensures in
+    let step = stepped τ r at.w at.place at.found n c.choices-below.result c.column_order-order.result at.part c.copy.new.to (omega arith) (omega arith)
+    c.choices-below.ensures c.column_order-order.ensures c.count_rules-count.ensures at.invariant.0 at.invariant.1 c.copy.ensures in
     let written = put_mid at.found (length at.part - at.found) at.part c.copy.new.to in
     let sized : length written ≡ length at.part = same_len_mid at.found (length at.part - at.found) at.part c.copy.new.to c.copy.auto.to in
-    let place = next at.w at.place c.wide-place.result c.choices-all.result (omega arith) c.choices-all.ensures at.invariant.1 c.wide-place.ensures in (
-      omega arith,
+    let place = next at.w at.place c.from-place.result c.choices-all.result (omega arith) c.choices-all.ensures at.invariant.0 c.from-place.ensures in (
       place ∙ ap start (sym (add-one at.w)),
       omega (arith, sized),
-      sized ∙ at.invariant.3,
-      ap (λ m. goes (keep (eligible τ r) (drop m column_order)) written (at.found + n)) place ∙ step ∙ at.invariant.4,
+      sized ∙ at.invariant.2,
+      ap (λ m. goes (keep (eligible τ r) (drop m column_order)) written (at.found + n)) place ∙ step ∙ at.invariant.3,
     )
 
 -- all weights are passed
@@ -108,8 +105,8 @@ returns c =
     let at = c.loop-w in
     let args = c.args in
     let last : at.w ≡ 8 = omega arith in
-    let end : length column_order ≤ at.place = omega (arith, order_claim.sized, at.invariant.1 ∙ ap start last ∙ start-end) in
+    let end : length column_order ≤ at.place = omega (arith, order_claim.sized, at.invariant.0 ∙ ap start last ∙ start-end) in
     sym
     (ap (λ cs. goes (keep (eligible args.errors args.checks) cs) at.part at.found) (drop_of_length-le column_order end)
     ∙ goes-ended at.part at.found)
-    ∙ at.invariant.4
+    ∙ at.invariant.3

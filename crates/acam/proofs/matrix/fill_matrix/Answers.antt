@@ -4,15 +4,13 @@ use mathlib.Core.List.{List, ◌++◌}
 use Prim.Native.Nat.{ℕ, ◌+◌, ◌-◌, ◌≤◌}
 use native.Mathlib.Omega.{arith}
 use lib.ListN.{length, take, drop, length-append, length-drop}
-use lib.Seq.{take_at}
 use borrow.Rule.Slice.PartMut.{mid_of, put_mid}
 use Rattle.parity.specs.Shape.{checks, columns}
 use Rattle.parity.specs.Matrix.{rule_columns, check_columns, matrix}
 use Rattle.parity.specs.Questions.{Taken}
 use Rattle.parity.specs.declared.Shape.{Shape}
 use Rattle.parity.proofs.Redundancy.{redundancy_claim}
-use Rattle.parity.proofs.MatrixFacts.{rules-sized}
-use Rattle.acam.proofs.MatrixArray.{wide, front, rules-fill, rules-ask}
+use Rattle.acam.proofs.MatrixArray.{wide, rules-ask, are-rules, rules-long, rules-held}
 use Rattle.acam.proofs.Tail.{tail-is, tail-back}
 use Rattle.acam.proofs.matrix.fill_matrix.Goals as goal
 
@@ -23,11 +21,11 @@ module _ (s : Shape) (t : Taken s) (r : ℕ) (enough : r ≡ checks s) (part : L
 
   -- once the rule columns are there
   module _ (rules : List ℕ) (filled : rules ≡ rule_columns s.errors r (length (take s.width part))) where
-    are-rules : rules ≡ rule_columns s.errors (checks s) s.width
-    are-rules = filled ∙ rules-fill s t r enough part (omega (arith, long))
+    room : s.width ≤ length part
+    room = omega (arith, long)
 
     counted : length rules ≡ s.width
-    counted = ap length are-rules ∙ rules-sized s t
+    counted = rules-long s t r enough part room rules filled
 
     -- the part as it is then, and what is left of it for the check columns
     abbrev now : List ℕ
@@ -49,33 +47,13 @@ module _ (s : Shape) (t : Taken s) (r : ℕ) (enough : r ≡ checks s) (part : L
     unfolding matrix
     whole last made =
         let second : last ≡ check_columns (checks s) = made ∙ ap check_columns rest in
-        let first = take_at rules (drop s.width part) s.width counted ∙ are-rules in
+        let first = rules-held s t r enough part room rules filled ∙ are-rules s t r enough part room rules filled in
         tail-back s.width now last (omega (arith, sized)) ∙ (λ i. first i ++ second i)
-
-pub slice_bounds-fill_rules-end : goal.slice_bounds-fill_rules-end
-slice_bounds-fill_rules-end c = omega (arith, long c.args.shape c.requires.taken c.args.checks c.requires.checks c.args.part.now c.requires.columns)
-
-pub slice_bounds-fill_rules-end-2 : goal.slice_bounds-fill_rules-end-2
-slice_bounds-fill_rules-end-2 c =
-    let room = long c.args.shape c.requires.taken c.args.checks c.requires.checks c.args.part.now c.requires.columns in
-    sym (front c.args.shape c.requires.taken c.args.checks c.requires.checks c.args.part.now (omega (arith, room)))
 
 pub fill_rules-requires : goal.fill_rules-requires
 fill_rules-requires c =
     let room = long c.args.shape c.requires.taken c.args.checks c.requires.checks c.args.part.now c.requires.columns in
     rules-ask c.args.shape c.requires.taken c.args.checks c.requires.checks c.args.part.now (omega (arith, room))
-
-pub slice_bounds-fill_checks-count : goal.slice_bounds-fill_checks-count
-slice_bounds-fill_checks-count c =
-    let room = sized c.args.shape c.requires.taken c.args.checks c.requires.checks c.args.part.now c.requires.columns c.fill_rules.new.part
-    c.fill_rules.ensures in
-    omega (arith, room)
-
-pub slice_bounds-fill_checks-start : goal.slice_bounds-fill_checks-start
-slice_bounds-fill_checks-start c =
-    let room = sized c.args.shape c.requires.taken c.args.checks c.requires.checks c.args.part.now c.requires.columns c.fill_rules.new.part
-    c.fill_rules.ensures in
-    omega (arith, room)
 
 pub fill_checks-requires : goal.fill_checks-requires
 fill_checks-requires c =

@@ -5,18 +5,11 @@ use mathlib.Core.List.{List}
 use Prim.Native.Nat.{ℕ}
 use native.Mathlib.Omega.{arith}
 use lib.ListN.{length, take, length-take}
-use borrow.Author.Tests.{eq-eqb, ne_eqb}
+use borrow.Author.Tests.{ne_eqb}
 use Rattle.parity.specs.Lists.{keep}
 use Rattle.parity.specs.Matrix.{column_order, eligible, rule_columns}
 use Rattle.parity.proofs.Filled.{filled_from-enough}
 use Rattle.acam.proofs.matrix.fill_rules.Goals as goal
-
--- τ = 1
-pub returns-then-errors-eq1 : goal.returns-then-errors-eq1
-unfolding rule_columns
-returns-then-errors-eq1 c =
-    let args = c.args in
-    simp (eq-eqb args.errors 1 c.if-errors-eq1.true) c.fill.ensures
 
 -- τ = 2 or 3
 pub returns : goal.returns

@@ -1,20 +1,12 @@
 -- `acam::matrix::matrix_of` meets its contract: the columns in front, and 0 in what is left. Assumes nothing.
 use mathlib.Core.Path.{sym, ◌∙◌, ap}
 use mathlib.Core.List.{◌++◌}
-use Prim.Native.Nat.{◌+◌, ◌≤◌}
-use native.Mathlib.Omega.{arith}
 use lib.ListN.{drop}
 use lib.Seq.{length-take-le}
 use Rattle.parity.specs.Shape.{columns}
 use Rattle.acam.specs.Matrices.{matrix_array}
 use Rattle.acam.proofs.MatrixArray.{zeros, drop-replicate, wide, fits}
 use Rattle.acam.proofs.matrix.matrix_of.Goals as goal
-
-pub overflow_add-columns : goal.overflow_add-columns
-overflow_add-columns c = omega (arith, fits c.args.shape c.requires.taken c.args.checks c.requires.checks)
-
-pub slice_bounds-matrix-end : goal.slice_bounds-matrix-end
-slice_bounds-matrix-end c = fits c.args.shape c.requires.taken c.args.checks c.requires.checks
 
 pub slice_bounds-fill_matrix-end : goal.slice_bounds-fill_matrix-end
 slice_bounds-fill_matrix-end c = sym (length-take-le _ zeros (fits c.args.shape c.requires.taken c.args.checks c.requires.checks))

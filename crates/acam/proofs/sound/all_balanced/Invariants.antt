@@ -3,7 +3,7 @@
 use mathlib.Core.Path.{◌≡◌}
 use mathlib.Core.Bool.{Bool, true}
 use mathlib.Core.List.{List}
-use Prim.Native.Nat.{ℕ, ◌-◌, ◌%◌, ◌≤◌}
+use Prim.Native.Nat.{ℕ, ◌%◌}
 use lib.Dec.{eqb}
 use lib.ListN.{get_or}
 use Rattle.parity.specs.Lists.{every_to}
@@ -13,7 +13,4 @@ abbrev pub balanced : List ℕ → ℕ → ℕ → Bool
 balanced sums radix l = eqb (get_or sums l 0 % radix) 0
 
 abbrev pub invariant-loop-l : goal.invariant-loop-l
-invariant-loop-l l = (l.l ≤ l.checks) × (every_to l.l (balanced l.sums l.radix) ≡ true)
-
-abbrev pub decreases-loop-l : goal.decreases-loop-l
-decreases-loop-l l = l.checks - l.l
+invariant-loop-l l = every_to l.l (balanced l.sums l.radix) ≡ true

@@ -1,7 +1,7 @@
 -- `acam::sound::is_balanced` meets its contract: below digit s each check row sums to 0 mod ρ; a sum that fails fails the whole test. Assumes nothing.
 use mathlib.Core.Path.{◌≡◌}
 use mathlib.Core.List.{List}
-use Prim.Native.Nat.{ℕ, ◌-◌, ◌%◌, ◌^◌, ◌≤◌, ◌<◌}
+use Prim.Native.Nat.{ℕ, ◌%◌, ◌^◌, ◌<◌}
 use lib.ListN.{length, take}
 use Rattle.parity.specs.Shape.{digit, checks, columns}
 use Rattle.parity.proofs.Sums.{check_sum}
@@ -14,8 +14,5 @@ row_sum ρ columns row t ℓ = check_sum (digit ρ t) ℓ (take (length row) col
 abbrev pub Balanced : ℕ → ℕ → List ℕ → List ℕ → ℕ → Type 0
 Balanced ρ checks columns row t = (ℓ : ℕ) → ℓ < checks → row_sum ρ columns row t ℓ % ρ ≡ 0
 
-abbrev pub invariant-loop-s : goal.invariant-loop-s
-invariant-loop-s l = (l.s ≤ l.digits) × (l.power ≡ l.radix ^ l.s) × ((t : ℕ) → t < l.s → Balanced l.radix l.checks l.matrix l.row t)
-
-abbrev pub decreases-loop-s : goal.decreases-loop-s
-decreases-loop-s l = l.digits - l.s
+abbrev pub invariant-loop : goal.invariant-loop
+invariant-loop l = (l.power ≡ l.radix ^ l.counter) × ((t : ℕ) → t < l.counter → Balanced l.radix l.checks l.matrix l.row t)

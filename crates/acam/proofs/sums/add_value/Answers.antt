@@ -20,15 +20,14 @@ unwritten f old new l e = ap (λ xs. get_or xs l 0) e ∙ filled-here f old l 0
 shift : (column l : ℕ) → column / 2 ^ l / 2 ≡ column / 2 ^ (l + 1)
 shift column l = div-div-eq-div-mul column (2 ^ l) 2 ∙ ap (λ x. column / x) (sym (pow-suc 2 l) ∙ ap (λ n. 2 ^ n) (sym (add-one l)))
 
-pub loop-l-preserved : goal.loop-l-preserved
+pub loop-sum-preserved : goal.loop-sum-preserved
 unfolding digit
-loop-l-preserved c =
+loop-sum-preserved c =
     let args = c.args in
-    let loop = c.loop-l in
+    let loop = c.loop-sum in
     let f : ℕ → ℕ = added args.sums.now args.column args.value in (
-      omega arith,
-      ap₂ (λ xs v. set xs loop.l v) loop.invariant.1
-          (ap₂ (λ x y. x + y * args.value) (unwritten f args.sums.now loop.sums loop.l loop.invariant.1) (ap (λ x. x % 2) loop.invariant.2))
-          ∙ filled_next f args.sums.now loop.l (omega arith),
-      ap (λ x. x / 2) loop.invariant.2 ∙ shift args.column loop.l,
+      ap₂ (λ xs v. set xs loop.sum-index v) loop.invariant.0
+          (ap₂ (λ x y. x + y * args.value) (unwritten f args.sums.now loop.sums loop.sum-index loop.invariant.0) (ap (λ x. x % 2) loop.invariant.1))
+          ∙ filled_next f args.sums.now loop.sum-index (omega arith),
+      ap (λ x. x / 2) loop.invariant.1 ∙ shift args.column loop.sum-index,
     )

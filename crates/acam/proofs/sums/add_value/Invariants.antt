@@ -2,7 +2,7 @@
 -- Assumes nothing.
 use mathlib.Core.Path.{◌≡◌}
 use mathlib.Core.List.{List}
-use Prim.Native.Nat.{ℕ, ◌+◌, ◌-◌, ◌*◌, ◌/◌, ◌^◌, ◌≤◌}
+use Prim.Native.Nat.{ℕ, ◌+◌, ◌*◌, ◌/◌, ◌^◌}
 use lib.ListN.{get_or}
 use Rattle.parity.specs.Matrix.{bit}
 use Rattle.parity.proofs.Filled.{filled}
@@ -12,8 +12,5 @@ use Rattle.acam.proofs.sums.add_value.Given as goal
 abbrev pub added : List ℕ → ℕ → ℕ → ℕ → ℕ
 added sums column v l = get_or sums l 0 + bit l column * v
 
-abbrev pub invariant-loop-l : goal.invariant-loop-l
-invariant-loop-l l = (l.l ≤ 8) × (l.sums ≡ filled (added l.initial.sums l.column l.value) l.initial.sums l.l) × (l.rest ≡ l.column / 2 ^ l.l)
-
-abbrev pub decreases-loop-l : goal.decreases-loop-l
-decreases-loop-l l = 8 - l.l
+abbrev pub invariant-loop-sum : goal.invariant-loop-sum
+invariant-loop-sum l = (l.sums ≡ filled (added l.initial.sums l.column l.value) l.initial.sums l.sum-index) × (l.rest ≡ l.column / 2 ^ l.sum-index)

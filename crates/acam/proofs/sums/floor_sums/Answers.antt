@@ -39,29 +39,21 @@ module _ (power : ℕ) (columns cells : List ℕ) (j : ℕ) where
       ∙ check_sum-next (λ v. v / power) l j columns cells hc hv)
       ∙ ap (sums_of power columns cells) (sym (add-one j))
 
--- what the product makes of a cell is the cell over power, a byte
-pub overflow_cast-floor : goal.overflow_cast-floor
-overflow_cast-floor c =
-    let power = c.args.power in
-    let cell = get_or c.args.cells.now c.loop-j.j 0 in
-    let floor : c.quotient-floor.result ≡ cell / power = c.quotient-floor.ensures power (omega arith) (omega arith) refl in
-    let byte : cell < 256 = (c.type_inv.cells c.loop-j.j).fits in
-    omega (arith, div-le_self cell power)
-
 pub add_value-requires : goal.add_value-requires
 add_value-requires c =
     let args = c.args in
     let loop = c.loop-j in
     let cell = get_or args.cells.now loop.j 0 in
-    let floor : c.quotient-floor.result ≡ cell / args.power = c.quotient-floor.ensures args.power (omega arith) (omega arith) refl in
+    let floor : c.quotient-floor.result ≡ cell / args.power
+    = c.quotient-floor.ensures args.power (omega arith) (omega arith) refl ∙ ap (λ v. v / args.power) c.from.ensures in
     let bytes : (i : ℕ) → get_or args.cells.now i 0 < 256 = λ i. (c.type_inv.cells i).fits in
     record {
-      sized = ap length loop.invariant.1;
+      sized = ap length loop.invariant;
       room = λ l h. omega (
         arith,
         bytes loop.j,
         div-le_self cell args.power,
-        ap (λ xs. get_or xs l 0) loop.invariant.1,
+        ap (λ xs. get_or xs l 0) loop.invariant,
         sums-high args.power args.matrix.now args.cells.now loop.j bytes l h,
       );
     }
@@ -72,9 +64,7 @@ loop-j-preserved c =
     let loop = c.loop-j in
     let column = get_or args.matrix.now loop.j 0 in
     let floor : c.quotient-floor.result ≡ get_or args.cells.now loop.j 0 / args.power
-    = c.quotient-floor.ensures args.power (omega arith) (omega arith) refl in (
-      omega arith,
-      c.add_value.ensures
-          ∙ ap₂ (λ xs v. tabulate 8 (grown xs column v)) loop.invariant.1 floor
-          ∙ sums_next args.power args.matrix.now args.cells.now loop.j (omega arith) (omega arith),
-    )
+    = c.quotient-floor.ensures args.power (omega arith) (omega arith) refl ∙ ap (λ v. v / args.power) c.from.ensures in
+    c.add_value.ensures
+    ∙ ap₂ (λ xs v. tabulate 8 (grown xs column v)) loop.invariant floor
+    ∙ sums_next args.power args.matrix.now args.cells.now loop.j (omega arith) (omega arith)

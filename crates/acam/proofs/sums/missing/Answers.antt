@@ -3,6 +3,7 @@ use mathlib.Core.Path.{◌≡◌, ◌∙◌, ap}
 use Prim.Native.Nat.{ℕ, ◌+◌, ◌-◌, ◌*◌, ◌/◌, ◌≤◌, ◌<◌}
 use native.Mathlib.Nat.{mul-le-mul}
 use native.Mathlib.Omega.{arith}
+use Rattle.acam.specs.Digits.{missing}
 use Rattle.acam.proofs.Reciprocal.{by_product}
 use Rattle.acam.proofs.Missing.{multiple-over, to-multiple}
 use Rattle.acam.proofs.sums.missing.Goals as goal
@@ -15,12 +16,12 @@ divided n ρ few low high =
 
 pub overflow_sub-result-2 : goal.overflow_sub-result-2
 overflow_sub-result-2 c =
-    let n = c.args.sum in
+    let n = c.from-from.result in
     let ρ = c.args.radix in
     omega (arith, ap (λ x. x * ρ) (divided n ρ (omega arith) (omega arith) (omega arith)), multiple-over ρ n (omega arith))
 
 pub returns : goal.returns
 returns c =
-    let n = c.args.sum in
+    let n = c.from-from.result in
     let ρ = c.args.radix in
-    ap (λ x. x * ρ - n) (divided n ρ (omega arith) (omega arith) (omega arith)) ∙ to-multiple ρ n (omega arith)
+    ap (λ x. x * ρ - n) (divided n ρ (omega arith) (omega arith) (omega arith)) ∙ to-multiple ρ n (omega arith) ∙ ap (missing ρ) c.from-from.ensures

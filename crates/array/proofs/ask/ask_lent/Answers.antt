@@ -65,6 +65,6 @@ returns c =
     let finished = c.program_row.ensures in
     let lent = lies args.shape args.sizes (length args.cells.now) args.row args.given.now (length args.finished.now) c.requires in
     let stands = row-part args.cells.now args.row (columns args.shape) _ lent.wide in
-    let changed = c.wide.ensures ∙ c.count_differences.ensures ∙ ap₂ differences finished stands in
+    let changed = c.from.ensures ∙ c.count_differences.ensures ∙ ap₂ differences finished stands in
     λ mem. call-done _ args.finished.now (with_cells args.cells.now mem) _ c.requires.none
     ∙ sym (λ i. giving (accepted (changed i)) (finished i) (with_cells args.cells.now mem))

@@ -1,6 +1,6 @@
 -- `array::cells::sound_lent` meets its contract: the soundness test is made on the part of the cells that is the row. Assumes nothing.
 use mathlib.Core.Path.{◌≡◌, sym, ap, ◌∙◌}
-use mathlib.Core.Bool.{Bool, true, false}
+use mathlib.Core.Bool.{Bool, false}
 use mathlib.Core.List.{List, []}
 use Prim.Native.Nat.{ℕ, ◌+◌, ◌-◌, ◌*◌}
 use native.Mathlib.Omega.{arith}
@@ -63,16 +63,8 @@ is_sound-requires-clause-to_test c =
       matrix = c.matrix_of-matrix.ensures;
     }
 
--- sound
-pub returns-then-is_sound : goal.returns-then-is_sound
-unfolding sound_call
-returns-then-is_sound c =
-    let args = c.args in
-    λ mem. tested args.shape args.sizes args.cells.now args.row c.requires true (sym c.if-is_sound.true ∙ c.is_sound.ensures)
-
--- not sound
 pub returns : goal.returns
 unfolding sound_call
 returns c =
     let args = c.args in
-    λ mem. tested args.shape args.sizes args.cells.now args.row c.requires false (sym c.if-is_sound.false ∙ c.is_sound.ensures)
+    λ mem. tested args.shape args.sizes args.cells.now args.row c.requires _ c.is_sound.ensures

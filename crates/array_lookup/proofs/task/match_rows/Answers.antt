@@ -2,10 +2,10 @@
 -- Assumes nothing.
 use mathlib.Core.Path.{◌≡◌, ◌∙◌, ap, ap₂}
 use mathlib.Core.List.{[], ◌∷◌}
-use Prim.Native.Nat.{ℕ, ◌+◌, ◌-◌}
+use Prim.Native.Nat.{ℕ, ◌+◌, ◌-◌, ◌*◌}
 use native.Mathlib.Numerals.{add-one}
 use native.Mathlib.Omega.{arith}
-use lib.ListN.{set, length-set}
+use lib.ListN.{set}
 use Rattle.parity.specs.Lists.{tabulate}
 use Rattle.parity.proofs.ListLaws.{sum-append}
 use Rattle.parity.proofs.Filled.{filled_next}
@@ -20,21 +20,12 @@ loop-i-preserved c =
     let args = c.args in
     let loop = c.loop-i in
     let byte : ℕ → ℕ = byte_of args.below args.inputs.now args.cells.now args.lines.now args.columns in
+    let start = loop.i * args.columns in
     let same : c.line_match-byte.result ≡ byte loop.i =
     c.line_match-byte.ensures
-    ∙ part-byte args.below args.inputs.now args.cells.now args.lines.now args.columns loop.i loop.start
-    (loop.start + args.columns - loop.start) loop.invariant.2 (omega arith) in
+    ∙ part-byte args.below args.inputs.now args.cells.now args.lines.now args.columns loop.i (start + args.columns - start) (omega arith) in
     let high = byte_high args.below args.inputs.now args.cells.now args.lines.now args.columns loop.i in (
-      omega arith,
-      length-set loop.matches loop.i c.line_match-byte.result ∙ loop.invariant.1,
-      omega arith,
-      omega (arith, high, c.wide-count.ensures ∙ same),
-      ap₂ (λ xs x. set xs loop.i x) loop.invariant.4 same ∙ filled_next byte args.matches.now loop.i (omega arith),
-      omega (
-        arith,
-        loop.invariant.5,
-        c.wide-count.ensures ∙ same,
-        sum-append (λ x. x) (tabulate loop.i byte) (byte loop.i ∷ []),
-        ap (λ n. sum (tabulate n byte)) (add-one loop.i),
-      ),
+      omega (arith, high, same),
+      ap₂ (λ xs x. set xs loop.i x) loop.invariant.1 same ∙ filled_next byte args.matches.now loop.i (omega arith),
+      omega (arith, same, sum-append (λ x. x) (tabulate loop.i byte) (byte loop.i ∷ []), ap (λ n. sum (tabulate n byte)) (add-one loop.i)),
     )

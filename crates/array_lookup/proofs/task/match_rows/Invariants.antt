@@ -2,8 +2,7 @@
 -- Assumes nothing.
 use mathlib.Core.Path.{◌≡◌}
 use mathlib.Core.List.{List}
-use Prim.Native.Nat.{ℕ, ◌-◌, ◌*◌, ◌≤◌}
-use lib.ListN.{length}
+use Prim.Native.Nat.{ℕ, ◌≤◌}
 use Rattle.parity.specs.Lists.{tabulate, sum_over}
 use Rattle.parity.proofs.Filled.{filled}
 use Rattle.array_lookup.specs.Rows.{byte_of}
@@ -14,9 +13,5 @@ sum xs = sum_over xs (λ x. x)
 
 abbrev pub invariant-loop-i : goal.invariant-loop-i
 invariant-loop-i l =
-    (l.i ≤ length l.initial.matches) × (length l.matches ≡ length l.initial.matches) × (l.start ≡ l.i * l.columns) × (l.count ≤ l.i)
-    × (l.matches ≡ filled (byte_of l.below l.inputs l.cells l.lines l.columns) l.initial.matches l.i)
+    (l.count ≤ l.i) × (l.matches ≡ filled (byte_of l.below l.inputs l.cells l.lines l.columns) l.initial.matches l.i)
     × (l.count ≡ sum (tabulate l.i (byte_of l.below l.inputs l.cells l.lines l.columns)))
-
-abbrev pub decreases-loop-i : goal.decreases-loop-i
-decreases-loop-i l = length l.initial.matches - l.i

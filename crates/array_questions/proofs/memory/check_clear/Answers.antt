@@ -1,25 +1,50 @@
 -- `array_questions::memory::check_clear` meets its contract: 6 on all lengths, after the shape. Assumes nothing.
-use mathlib.Core.Path.{refl, ap, ◌∙◌}
+use mathlib.Core.Path.{◌≡◌, refl}
+use mathlib.Core.Bool.{Bool}
 use mathlib.Core.List.{List, [], ◌∷◌}
 use Prim.Native.Nat.{ℕ}
 use lib.Dec.{eqb}
 use Rattle.parity.specs.Lists.{alongside}
-use Rattle.parity.specs.Questions.{shape_questions}
-use Rattle.shape.proofs.Refusals.{shape-asked, sizes-known}
-use Rattle.shape.proofs.Asking.{lengths-asked}
+use Rattle.parity.specs.Questions.{Question, question, first_no, lengths_question}
+use Rattle.parity.specs.declared.Shape.{Shape}
+use Rattle.shape.specs.Shapes.{sizes_of}
+use Rattle.shape.specs.declared.sizes.Sizes.{Sizes}
+use Rattle.shape.specs.declared.answer.Refusal.TheVariants.{Length}
+use Rattle.shape.proofs.Refusals.{shape-yes, shape-no, one-asked, asked-yes, asked-no, says-sizes}
 use Rattle.array_memory.specs.Blocks.{blocks}
+use Rattle.array_memory.specs.Lengths.{all_wanted}
 use Rattle.array_questions.proofs.memory.check_clear.Goals as goal
 
--- all asked
+module _ (s : Shape) (cells lines counters flags totals : ℕ) where
+  -- what is asked after the shape
+  abbrev more : List Question
+  more = lengths_question (cells ∷ lines ∷ counters ∷ flags ∷ totals ∷ []) (all_wanted s) ∷ []
+
+  -- the code's test is this
+  tested :
+      (told : Bool) (z : Sizes) (n : ℕ) → z ≡ sizes_of s → n ≡ blocks s
+      → told ≡ alongside eqb (cells ∷ lines ∷ counters ∷ flags ∷ totals ∷ []) (z.cells ∷ s.rows ∷ s.rows ∷ s.rows ∷ n ∷ [])
+      → first_no (question 6 told ∷ []) ≡ first_no more
+  tested told z n e same test = rw (test, e, same) refl
+
+-- the shape
+pub returns-in_err-sizes : goal.returns-in_err-sizes
+returns-in_err-sizes c =
+    let a = c.args in
+    shape-no a.shape c.check_shape.ensures c.in_err-sizes.was c.from_residual.result c.from_residual.ensures.1
+    (more a.shape a.cells a.lines a.counters a.flags a.totals)
+
+pub returns-in_err-unless : goal.returns-in_err-unless
+returns-in_err-unless c =
+    let a = c.args in
+    let p = shape-yes a.shape c.check_shape.ensures c.in_ok-sizes.was in
+    asked-no refl p (more a.shape a.cells a.lines a.counters a.flags a.totals) (one-asked Length _ c.unless.ensures)
+    (tested a.shape a.cells a.lines a.counters a.flags a.totals _ _ _ p.sizes c.block_count.ensures c.same_lengths.ensures)
+    c.in_err-unless.was _ c.from_residual-in_err-unless.ensures.1 []
+
 pub returns : goal.returns
 returns c =
-    let args = c.args in
-    let s = args.shape in
-    let m = s.rows in
-    let lent : List ℕ = args.cells ∷ args.lines ∷ args.counters ∷ args.flags ∷ args.totals ∷ [] in
-    let z = c.sizes-sizes.result in
-    lengths-asked s (shape_questions s) refl c.check_shape-asked.result c.check.result z _
-    (shape-asked s c.check_shape-asked.result c.check_shape-asked.ensures)
-    (sizes-known s c.check_shape-asked.result z [] c.check_shape-asked.ensures c.sizes-sizes.ensures) c.check.ensures
-    lent (λ z. z.cells ∷ m ∷ m ∷ m ∷ blocks s ∷ [])
-    (c.same_lengths.ensures ∙ ap (λ n. alongside eqb lent (z.cells ∷ m ∷ m ∷ m ∷ n ∷ [])) c.block_count.ensures)
+    let a = c.args in
+    let p = shape-yes a.shape c.check_shape.ensures c.in_ok-sizes.was in
+    says-sizes _ a.shape (asked-yes refl p (more a.shape a.cells a.lines a.counters a.flags a.totals) (one-asked Length _ c.unless.ensures)
+    (tested a.shape a.cells a.lines a.counters a.flags a.totals _ _ _ p.sizes c.block_count.ensures c.same_lengths.ensures) c.in_ok-unless.was)

@@ -10,17 +10,15 @@ use Rattle.cycle.proofs.Given.{gives-refusal, act-done}
 use Rattle.cycle.proofs.Cycle.clear.Goals as goal
 
 -- refused
-pub returns-in-Refused : goal.returns-in-Refused
+pub returns-in-Err : goal.returns-in-Err
 unfolding clear_call
-returns-in-Refused c =
+returns-in-Err c =
     let args = c.args in
     let lent : Memory → Memory = λ mem. with_all args.cells.now args.lines.now args.counters.now args.flags.now args.totals.now mem in
     let questions : List Question = clear_questions args.shape (all_lengths (lent no_memory)) in
-    let number = c.in-Refused.number in
-    λ mem. gives-refusal questions [] (lent mem) args.self _ _ number
-    (answer-refused questions args.shape c.check_clear.result c.check_clear.ensures number c.in-Refused.is)
-    c.refused.ensures
+    λ mem. gives-refusal questions [] (lent mem) args.self _ _ c.in-Err.refusal
+    (answer-refused questions args.shape c.check_clear.ensures c.in-Err.is) c.refused.ensures
 
 -- the fresh array
-pub returns-in-Taken : goal.returns-in-Taken
-returns-in-Taken c = λ mem. act-done (c.clear_lent.ensures mem c.args.self) c.done.ensures
+pub returns-in-Ok : goal.returns-in-Ok
+returns-in-Ok c = λ mem. act-done (c.clear_lent.ensures mem c.args.self) c.done.ensures

@@ -14,24 +14,22 @@ use Rattle.cycle.proofs.Given.{gives-refusal, gives-done}
 use Rattle.cycle.proofs.Cycle.commit.Goals as goal
 
 -- refused
-pub returns-in-Refused : goal.returns-in-Refused
+pub returns-in-Err : goal.returns-in-Err
 unfolding commit_call
-returns-in-Refused c =
+returns-in-Err c =
     let args = c.args in
     let questions : List Question = cells_questions args.shape (length args.cells.now) (commit_arguments args.shape args.row args.finished.now) in
-    let number = c.in-Refused.number in
-    λ mem. gives-refusal questions [] (with_cells args.cells.now mem) args.self _ _ number
-    (answer-refused questions args.shape c.check_commit.result c.check_commit.ensures number c.in-Refused.is)
-    c.refused.ensures
+    λ mem. gives-refusal questions [] (with_cells args.cells.now mem) args.self _ _ c.in-Err.refusal
+    (answer-refused questions args.shape c.check_commit.ensures c.in-Err.is) c.refused.ensures
 
 -- the row is written
-pub returns-in-Taken : goal.returns-in-Taken
+pub returns-in-Ok : goal.returns-in-Ok
 unfolding commit_call
-returns-in-Taken c =
+returns-in-Ok c =
     let args = c.args in
     let questions : List Question = cells_questions args.shape (length args.cells.now) (commit_arguments args.shape args.row args.finished.now) in
-    let passed : Passed questions args.shape c.in-Taken.sizes =
-    answer-taken questions args.shape c.check_commit.result c.check_commit.ensures c.in-Taken.is in
+    let passed : Passed questions args.shape c.in-Ok.sizes =
+    answer-taken questions args.shape c.check_commit.ensures c.in-Ok.is in
     λ mem. gives-done questions [] (with_cells args.cells.now mem) args.self _ [] []
     (row_written args.shape (with_cells args.cells.now mem) args.row args.finished.now) _ idle _ passed.none
     c.done.ensures refl (c.put_row.ensures mem) refl

@@ -10,17 +10,15 @@ use Rattle.cycle.proofs.Given.{gives-refusal, act-done}
 use Rattle.cycle.proofs.Cycle.start.Goals as goal
 
 -- refused
-pub returns-in-Refused : goal.returns-in-Refused
+pub returns-in-Err : goal.returns-in-Err
 unfolding start_call
-returns-in-Refused c =
+returns-in-Err c =
     let args = c.args in
     let lent : Memory → Memory = λ mem. with_rows args.counters.now args.flags.now args.totals.now mem in
     let questions : List Question = start_questions args.shape args.skip (rows_lengths (lent no_memory)) in
-    let number = c.in-Refused.number in
-    λ mem. gives-refusal questions [] (lent mem) args.self _ _ number
-    (answer-refused questions args.shape c.check_start.result c.check_start.ensures number c.in-Refused.is)
-    c.refused.ensures
+    λ mem. gives-refusal questions [] (lent mem) args.self _ _ c.in-Err.refusal
+    (answer-refused questions args.shape c.check_start.ensures c.in-Err.is) c.refused.ensures
 
 -- an open cycle
-pub returns-in-Taken : goal.returns-in-Taken
-returns-in-Taken c = λ mem. act-done (c.start_lent.ensures mem c.args.self) c.done.ensures
+pub returns-in-Ok : goal.returns-in-Ok
+returns-in-Ok c = λ mem. act-done (c.start_lent.ensures mem c.args.self) c.done.ensures

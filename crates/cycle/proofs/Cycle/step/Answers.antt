@@ -1,12 +1,8 @@
--- `cycle::Cycle::step` meets its contract: `check_shape` and `check_lent` ask up to 6, and `step_lent` does the rest. Assumes nothing.
-use mathlib.Core.Path.{◌≡◌, refl}
+-- `cycle::Cycle::step` meets its contract: `check_step` asks up to 6, and `step_lent` does the rest. Assumes nothing.
 use mathlib.Core.List.{List, [], ◌∷◌}
 use lib.ListN.{length}
-use Rattle.parity.specs.Questions.{Question, first_no, shape_questions}
-use Rattle.shape.specs.Shapes.{checked_says, sizes_if, sizes_in}
-use Rattle.shape.proofs.Refusals.{answer-taken, answer-refused, first_found, shape-asked, sizes-known}
-use Rattle.shape.proofs.Asking.{both-asked}
-use Rattle.array_memory.specs.Blocks.{blocks}
+use Rattle.parity.specs.Questions.{Question}
+use Rattle.shape.proofs.Refusals.{answer-refused, first_found}
 use Rattle.array_memory.specs.Lengths.{all_lengths}
 use Rattle.array_memory.specs.Memory.{Memory, with_all, no_memory}
 use Rattle.array_questions.specs.Questions.{lent_questions}
@@ -15,38 +11,14 @@ use Rattle.cycle.specs.Calls.{step_call}
 use Rattle.cycle.proofs.Given.{gives-refusal}
 use Rattle.cycle.proofs.Cycle.step.Goals as goal
 
-pub step_lent-requires : goal.step_lent-requires
-step_lent-requires c =
-    let args = c.args in
-    let s = args.shape in
-    let m = s.rows in
-    let lent : Memory → Memory = λ mem. with_all args.cells.now args.lines.now args.counters.now args.flags.now args.totals.now mem in
-    let first : List Question = lent_questions s [] (all_lengths (lent no_memory)) (length args.matches.now) in
-    let asked = c.check_shape.result in
-    let answer = c.check_lent.result in
-    let answered : checked_says answer ≡ sizes_if (first_no first) s =
-    both-asked s (shape_questions s) refl asked answer (sizes_in asked) _ (shape-asked s asked c.check_shape.ensures)
-    (sizes-known s asked (sizes_in asked) [] c.check_shape.ensures refl) c.check_lent.ensures (all_lengths (lent no_memory))
-    (λ z. z.cells ∷ m ∷ m ∷ m ∷ blocks s ∷ []) (length args.matches.now ∷ []) (λ z. m ∷ []) refl refl in
-    answer-taken first s answer answered c.in-Taken.is
-
 -- refused up to 6
-pub returns-in-Refused : goal.returns-in-Refused
+pub returns-in-Err : goal.returns-in-Err
 unfolding step_call
-returns-in-Refused c =
+returns-in-Err c =
     let args = c.args in
     let s = args.shape in
-    let m = s.rows in
     let lent : Memory → Memory = λ mem. with_all args.cells.now args.lines.now args.counters.now args.flags.now args.totals.now mem in
     let first : List Question = lent_questions s [] (all_lengths (lent no_memory)) (length args.matches.now) in
-    let asked = c.check_shape.result in
-    let answer = c.check_lent.result in
-    let answered : checked_says answer ≡ sizes_if (first_no first) s =
-    both-asked s (shape_questions s) refl asked answer (sizes_in asked) _ (shape-asked s asked c.check_shape.ensures)
-    (sizes-known s asked (sizes_in asked) [] c.check_shape.ensures refl) c.check_lent.ensures (all_lengths (lent no_memory))
-    (λ z. z.cells ∷ m ∷ m ∷ m ∷ blocks s ∷ []) (length args.matches.now ∷ []) (λ z. m ∷ []) refl refl in
-    let more : List Question = cycle_question s args.self ∷ [] in
-    let number = c.in-Refused.number in
-    let no = answer-refused first s answer answered number c.in-Refused.is in
-    λ mem. gives-refusal _ args.matches.now (lent mem) args.self _ _ number
-    (first_found first more number no.1 no.0, no.1) c.refused.ensures
+    let no = answer-refused first s c.check_step.ensures c.in-Err.is in
+    λ mem. gives-refusal _ args.matches.now (lent mem) args.self _ _ c.in-Err.refusal
+    (first_found first (cycle_question s args.self ∷ []) _ no.1 no.0, no.1) c.refused.ensures

@@ -9,6 +9,7 @@ use lib.ListN.{length}
 use Rattle.parity.specs.declared.Shape.{Shape}
 use Rattle.parity.specs.Questions.{Question, first_no}
 use Rattle.shape.proofs.Refusals.{first_rest}
+use Rattle.shape.specs.declared.answer.Refusal.TheVariants.{Record}
 use Rattle.array_questions.specs.Questions.{lent_questions}
 use Rattle.schedule.specs.Schedule.{Entry}
 use Rattle.array_memory.specs.Lengths.{all_lengths}
@@ -33,7 +34,7 @@ moved-requires c =
     let self = args.self in
     let lent : Memory = with_all args.cells.now args.lines.now args.counters.now args.flags.now args.totals.now no_memory in
     let taken = lent-taken args.shape lent (length args.matches.now) c.requires.matches_value in
-    let found = told-opening self.skip args.shape self.place _ _ _ _ (sym c.locate.ensures ∙ c.in-Opening.is) in
+    let found = told-opening self.skip args.shape self.place _ _ _ _ c.in-Opening.ensures in
     movable args.shape taken self found.0
 
 pub make_test-requires : goal.make_test-requires
@@ -43,7 +44,7 @@ make_test-requires c =
     let lent : Memory = with_all args.cells.now args.lines.now args.counters.now args.flags.now args.totals.now no_memory in
     let none = c.requires.matches_value in
     let taken = lent-taken args.shape lent (length args.matches.now) none in
-    let found = told-test self.skip args.shape self.place _ _ _ (sym c.locate.ensures ∙ c.in-Test.is) in
+    let found = told-test self.skip args.shape self.place _ _ _ c.in-Test.ensures in
     record {
       test_next = record {
         taken = taken;
@@ -63,7 +64,7 @@ moved-requires-in-Test c =
     let self = args.self in
     let lent : Memory = with_all args.cells.now args.lines.now args.counters.now args.flags.now args.totals.now no_memory in
     let taken = lent-taken args.shape lent (length args.matches.now) c.requires.matches_value in
-    let found = told-test self.skip args.shape self.place _ _ _ (sym c.locate.ensures ∙ c.in-Test.is) in
+    let found = told-test self.skip args.shape self.place _ _ _ c.in-Test.ensures in
     movable args.shape taken self found.0
 
 -- 9
@@ -76,9 +77,9 @@ returns-in-Elsewhere c =
     let lent : Memory → Memory = λ mem. with_all args.cells.now args.lines.now args.counters.now args.flags.now args.totals.now mem in
     let first : List Question = lent_questions s [] (all_lengths (lent no_memory)) (length args.matches.now) in
     let more : List Question = cycle_question s self ∷ [] in
-    let fails : is_next s self ≡ false = told_none self.skip s self.place _ self.count (sym c.locate.ensures ∙ c.in-Elsewhere.is) in
+    let fails : is_next s self ≡ false = told_none self.skip s self.place _ self.count c.in-Elsewhere.ensures in
     let own : first_no more ≡ 9 = rw fails refl in
-    λ mem. gives-refusal _ args.matches.now (lent mem) self _ _ 9
+    λ mem. gives-refusal _ args.matches.now (lent mem) self _ _ Record
     (first_rest first more refl c.requires.matches_value ∙ own, lit< tt) c.refused.ensures
 
 -- what a lookup that is made gives
@@ -107,7 +108,7 @@ returns-in-Opening c =
     let none = c.requires.matches_value in
     let t = lent-taken s (lent no_memory) (length args.matches.now) none in
     let sized = lent-sized s (lent no_memory) (length args.matches.now) none in
-    let (next, few, low, entry, place) = told-opening self.skip s self.place _ _ _ _ (sym c.locate.ensures ∙ c.in-Opening.is) in
+    let (next, few, low, entry, place) = told-opening self.skip s self.place _ _ _ _ c.in-Opening.ensures in
     let after = c.moved.ensures ∙ ap (λ n. record_at self.skip n (suc self.count)) place in
     let made = c.make_opening.ensures in
     λ mem. step_gives s self (lent mem) args.matches.now none next (opening_of s c.in-Opening.byte) entry _ _ _ _ c.done.ensures
@@ -123,7 +124,7 @@ returns-in-Test c =
     let lent : Memory → Memory = λ mem. with_all args.cells.now args.lines.now args.counters.now args.flags.now args.totals.now mem in
     let none = c.requires.matches_value in
     let t = lent-taken s (lent no_memory) (length args.matches.now) none in
-    let (next, low, here) = told-test self.skip s self.place _ _ _ (sym c.locate.ensures ∙ c.in-Test.is) in
+    let (next, low, here) = told-test self.skip s self.place _ _ _ c.in-Test.ensures in
     let at = next_place s t self low next in
     let after = c.moved-in-Test.ensures ∙ ap (λ here. record_at self.skip here.next (suc self.count)) here in
     let made = c.make_test.ensures in

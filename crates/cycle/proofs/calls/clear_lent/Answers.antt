@@ -30,7 +30,7 @@ returns c =
     let counters = made.counted ∙ ap zeros z.rows.counters in
     let flags = made.flagged ∙ ap zeros z.rows.flags in
     let totals = made.totalled ∙ ap zeros z.rows.totals in
-    let lines-made = c.fill-2.ensures ∙ ap zeros z.lines in
-    let cells-made = c.fill.ensures ∙ ap zeros z.cells in
+    let lines-made = (c.fill-2.ensures.after (λ y e. e)) ∙ ap zeros z.lines in
+    let cells-made = (c.fill.ensures.after (λ y e. e)) ∙ ap zeros z.cells in
     λ mem cycle. call-done _ [] (state_of (lent mem) cycle) _ c.requires.none
     ∙ sym (λ i. giving (accepted 0) [] (state_of (with_all (cells-made i) (lines-made i) (counters i) (flags i) (totals i) mem) idle))

@@ -6,7 +6,7 @@ use Rattle.cycle_passes.proofs.Pass.{PassBack}
 use Rattle.cycle_passes.proofs.rows.take_up.Given as goal
 
 abbrev pub invariant-loop-i : goal.invariant-loop-i
-invariant-loop-i l = (l.at ≡ l.i * l.columns + l.column) × PassBack (column_cell l.columns l.column l.cells) l.initial.bytes l.i l.bytes
-
-abbrev pub decreases-loop-i : goal.decreases-loop-i
-decreases-loop-i l = l.i
+invariant-loop-i l = record {
+  place : l.at ≡ l.i * l.columns + l.column;
+  taken : PassBack (column_cell l.columns l.column l.cells) l.initial.bytes l.i l.bytes;
+}

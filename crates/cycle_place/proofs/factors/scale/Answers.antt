@@ -17,16 +17,14 @@ product-below a r e d pos h = mul-le-mul_left a (pow-le-pow_right pos h)
 pub overflow_mul-product : goal.overflow_mul-product
 overflow_mul-product c =
     let args = c.args in
-    let loop = c.loop-e in
+    let turns = c.loop.counter in
     omega (
       arith,
-      ap (λ x. x * args.radix) loop.invariant.1,
-      product-next args.number args.radix loop.e,
-      product-below args.number args.radix (loop.e + 1) args.exponent (omega arith) (omega arith),
+      ap (λ x. x * args.radix) c.loop.invariant,
+      product-next args.number args.radix turns,
+      product-below args.number args.radix (turns + 1) args.exponent (omega arith) (omega arith),
     )
 
-pub loop-e-preserved : goal.loop-e-preserved
-loop-e-preserved c =
-    let args = c.args in
-    let loop = c.loop-e in
-    (omega arith, ap (λ x. x * args.radix) loop.invariant.1 ∙ product-next args.number args.radix loop.e)
+pub loop-preserved : goal.loop-preserved
+loop-preserved c =
+    ap (λ x. x * c.args.radix) c.loop.invariant ∙ product-next c.args.number c.args.radix c.loop.counter

@@ -1,19 +1,17 @@
--- `job::run::drift_cells` meets its contract. The loop's invariant: `at` is where drift i begins, and the cells are those that the drifts
--- before it leave. Assumes nothing.
+-- `job::run::drift_cells` meets its contract: the cells are those that the drifts before drift i leave. Assumes nothing.
 use mathlib.Core.Path.{◌≡◌, ◌∙◌, ap}
 use mathlib.Core.List.{List, []}
-use Prim.Native.Nat.{ℕ, ◌+◌, ◌≤◌, ◌<◌}
+use Prim.Native.Nat.{ℕ, ◌+◌, ◌-◌, ◌*◌}
 use native.Mathlib.Numerals.{add-one}
 use native.Mathlib.Omega.{arith}
 use lib.ListN.{length}
-use borrow.Author.Rules.{rules}
 use Rattle.parity.specs.declared.Shape.{Shape}
 use Rattle.shape.specs.Answers.{Said, Result, outcome_says, giving}
 use Rattle.array_memory.specs.Memory.{Memory, with_cells}
 use Rattle.array.specs.Calls.{drift_call}
 use Rattle.cycle.specs.Record.{idle}
 use Rattle.cycle.specs.Calls.{state_of, on_memory}
-use Rattle.job_parse.specs.Parse.{byte_at, two_at, job_shape, drift_count, drift_start, drift_row, drift_column, drift_level, most_bytes}
+use Rattle.job_parse.specs.Parse.{byte_at, two_at, job_shape, drift_count, drift_start, drift_row, drift_column, drift_level}
 use Rattle.job.specs.Job.{after_drifts}
 use Rattle.job.specs.Ready.{Ready}
 use Rattle.job.proofs.TakenJob.{taken_job}
@@ -32,51 +30,36 @@ next s input cells₀ cells last i at row column same place r c before said give
     ∙ ap (λ st. (on_memory (λ mem. drift_call (job_shape input) mem (drift_row input i) (drift_column input i) (drift_level input i)) st).state) (before mem)
     ∙ ap (λ (r : Result Memory). state_of r.state idle) (rw (r, c, place, same) at (gives mem))
 
--- a turn has its whole drift before it
-room :
-    (input : List ℕ) (s : Shape) (i at : ℕ) → Ready input s → at ≡ drift_start input i → i ≤ drift_count input → at < length input
-    → (at + 4 ≤ length input) × (i < drift_count input) × (length input ≤ most_bytes)
-room input s i at ready place few h =
-    let job = taken_job input ready.none in
-    let sized = job.sized in
-    let short = job.short in
-    (omega arith, omega arith, short)
+-- where the drifts are: after two bytes with their number, and up to the end of the input
+record Places (input : List ℕ) (start : ℕ) : Type 0 where
+  starts : start ≡ drift_start input 0
+  counts : two_at input (start - 2) ≡ drift_count input
+  ends : length input ≡ drift_start input (drift_count input)
+
+places : (input : List ℕ) (s : Shape) → Ready input s → Places input (13 + s.rows * s.width)
+places input s ready =
+    let starts : 13 + s.rows * s.width ≡ drift_start input 0 = omega (arith, ap (λ s. s.rows * s.width) ready.shape) in
+    record { starts = starts; counts = ap (two_at input) (omega (arith, starts)); ends = (taken_job input ready.none).sized }
+
+pub two_at-count-requires : goal.two_at-count-requires
+two_at-count-requires c = omega (arith, places c.args.input.now c.args.shape c.requires)
 
 pub two_at-row-requires : goal.two_at-row-requires
-two_at-row-requires c =
-    let inv = c.loop-at.invariant in
-    omega (arith, room c.args.input.now c.args.shape inv.0 c.loop-at.at c.requires inv.1 inv.2 c.loop-at-test.true)
+two_at-row-requires c = omega (arith, places c.args.input.now c.args.shape c.requires)
 
 pub bounds-input-at : goal.bounds-input-at
-bounds-input-at c =
-    let inv = c.loop-at.invariant in
-    omega (arith, room c.args.input.now c.args.shape inv.0 c.loop-at.at c.requires inv.1 inv.2 c.loop-at-test.true)
+bounds-input-at c = omega (arith, places c.args.input.now c.args.shape c.requires)
 
-pub bounds-input-at-in-loop-at : goal.bounds-input-at-in-loop-at
-bounds-input-at-in-loop-at c =
-    let inv = c.loop-at.invariant in
-    omega (arith, room c.args.input.now c.args.shape inv.0 c.loop-at.at c.requires inv.1 inv.2 c.loop-at-test.true)
+pub bounds-input-at-in-loop-i : goal.bounds-input-at-in-loop-i
+bounds-input-at-in-loop-i c = omega (arith, places c.args.input.now c.args.shape c.requires)
 
-pub loop-at-preserved : goal.loop-at-preserved
-loop-at-preserved c =
+pub loop-i-preserved : goal.loop-i-preserved
+loop-i-preserved c =
     let args = c.args in
-    let loop = c.loop-at in
-    let inv = loop.invariant in
+    let input = args.input.now in
+    let s = args.shape in
+    let i = c.loop-i.i in
     let call = c.drift in
-    let whole = room args.input.now args.shape inv.0 loop.at c.requires inv.1 inv.2 c.loop-at-test.true in (
-      inv.0 + 1,
-      omega arith,
-      omega arith,
-      search rules,
-      next args.shape args.input.now args.cells.now loop.cells _ inv.0 loop.at _ _ c.requires.shape inv.1
-          c.two_at-row.ensures c.wide-column.ensures inv.4 (outcome_says call.result) call.ensures,
-    )
-
--- every drift
-pub returns : goal.returns
-returns c =
-    let args = c.args in
-    let sized = (taken_job args.input.now c.requires.none).sized in
-    let inv = c.loop-at.invariant in
-    let all : drift_count args.input.now ≡ inv.0 = omega arith in
-    λ mem. ap (λ n. after_drifts args.input.now n (state_of (with_cells args.cells.now mem) idle)) all ∙ inv.4 mem
+    let place : 13 + s.rows * s.width + 4 * i ≡ drift_start input i = omega (arith, places input s c.requires) in
+    next s input args.cells.now c.loop-i.cells _ i _ _ _ c.requires.shape place c.two_at-row.ensures c.from-column.ensures c.loop-i.invariant
+    (outcome_says call.result) call.ensures

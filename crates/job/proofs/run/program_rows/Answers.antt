@@ -1,12 +1,10 @@
--- `job::run::program_rows` meets its contract. The loop's invariant: the cells are those after programming the rows before `row`, on an
--- idle record, and `start` is where the levels of `row` begin. Assumes nothing.
-use mathlib.Core.Path.{◌≡◌, ◌∙◌, ap, ap₂}
+-- `job::run::program_rows` meets its contract: the cells are those after programming the rows before `row`, on an idle record. Assumes nothing.
+use mathlib.Core.Path.{◌≡◌, ◌∙◌, ap}
 use mathlib.Core.List.{List, []}
 use Prim.Native.Nat.{ℕ, ◌+◌, ◌-◌, ◌*◌, ◌≤◌, ◌<◌}
 use native.Mathlib.Numerals.{add-one}
 use native.Mathlib.Omega.{arith}
 use lib.ListN.{length, take, drop}
-use borrow.Author.Rules.{rules}
 use Rattle.parity.specs.declared.Shape.{Shape}
 use Rattle.array_memory.specs.Memory.{Memory, with_cells}
 use Rattle.array_memory.proofs.RowPlaces.{row_fits}
@@ -43,24 +41,17 @@ ends input s row ready h =
     (omega (arith, row_fits row s.rows s.width h, job.sized), job.short)
 
 pub slice_bounds-program-end : goal.slice_bounds-program-end
-slice_bounds-program-end c =
-    let within = ends c.args.input.now c.args.shape c.loop-row.row c.requires c.loop-row-test.true in
-    let start = c.loop-row.invariant.0 in
-    omega arith
+slice_bounds-program-end c = omega (arith, ends c.args.input.now c.args.shape c.loop-row.row c.requires c.loop-row-test.true)
 
 pub loop-row-preserved : goal.loop-row-preserved
 loop-row-preserved c =
-    let loop = c.loop-row in
     let args = c.args in
     let s = args.shape in
     let input = args.input.now in
+    let row = c.loop-row.row in
     let same = c.requires.shape in
-    let count : loop.start + s.width - loop.start ≡ (job_shape input).width = omega (arith, ap (λ s. s.width) same) in
-    let given : take (loop.start + s.width - loop.start) (drop loop.start input) ≡ row_levels input loop.row
-    = ap₂ (λ n at. take n (drop at input)) count (loop.invariant.0 ∙ ap (λ s. 11 + loop.row * s.width) same) in
-    let call = c.program in (
-      omega arith,
-      omega arith,
-      search rules,
-      next s input args.cells.now loop.cells _ loop.row _ same given loop.invariant.3 call.result call.ensures,
-    )
+    let start = 11 + row * s.width in
+    let count : start + s.width - start ≡ s.width = omega arith in
+    let given : take (start + s.width - start) (drop start input) ≡ row_levels input row
+    = ap (λ n. take n (drop start input)) count ∙ ap (λ s. take s.width (drop (11 + row * s.width) input)) same in
+    next s input args.cells.now c.loop-row.cells _ row _ same given c.loop-row.invariant c.program.result c.program.ensures

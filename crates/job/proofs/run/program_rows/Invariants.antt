@@ -1,9 +1,7 @@
--- `job::run::program_rows` meets its contract. The loop's invariant: the cells are those after programming the rows before `row`, on an
--- idle record, and `start` is where the levels of `row` begin. Assumes nothing.
+-- `job::run::program_rows` meets its contract: the cells are those after programming the rows before `row`, on an idle record. Assumes nothing.
 use mathlib.Core.Path.{◌≡◌}
 use mathlib.Core.List.{List}
-use Prim.Native.Nat.{ℕ, ◌+◌, ◌-◌, ◌*◌, ◌≤◌}
-use lib.ListN.{length}
+use Prim.Native.Nat.{ℕ}
 use Rattle.array_memory.specs.Memory.{Memory, with_cells}
 use Rattle.cycle.specs.Record.{idle}
 use Rattle.cycle.specs.Calls.{state_of}
@@ -16,8 +14,4 @@ Programmed input cells₀ i cells =
     (mem : Memory) → after_programs input i (state_of (with_cells cells₀ mem) idle) ≡ state_of (with_cells cells mem) idle
 
 abbrev pub invariant-loop-row : goal.invariant-loop-row
-invariant-loop-row l =
-    (l.start ≡ 11 + l.row * l.width) × (l.row ≤ l.rows) × (length l.cells ≡ length l.initial.cells) × Programmed l.input l.initial.cells l.row l.cells
-
-abbrev pub decreases-loop-row : goal.decreases-loop-row
-decreases-loop-row l = l.rows - l.row
+invariant-loop-row l = Programmed l.input l.initial.cells l.row l.cells

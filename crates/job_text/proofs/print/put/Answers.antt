@@ -13,5 +13,5 @@ returns c =
     let out = c.args.out.now in
     record {
       place = refl;
-      bytes = ap (put_mid at (at + length word - at) out) c.copy.ensures ∙ written-part at word out c.requires;
+      bytes = ap (put_mid at (at + length word - at) out) c.copy_from_slice.ensures.after ∙ written-part at word out c.requires;
     }

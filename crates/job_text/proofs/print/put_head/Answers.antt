@@ -15,16 +15,6 @@ wrote-item :
     → Wrote mid (word ++ decimal number) now end now' → Wrote 0 (a ++ word ++ decimal number) out end now'
 wrote-item word number fits first second = rw append_assoc (wrote-append fits first second)
 
--- no number has more than 20 digits
-pub put_item-second-requires : goal.put_item-second-requires
-put_item-second-requires c = omega (arith, decimal-short c.args.levels)
-
-pub put_item-third-requires : goal.put_item-third-requires
-put_item-third-requires c = omega (arith, decimal-short c.args.levels, decimal-short c.args.columns)
-
-pub put-requires : goal.put-requires
-put-requires c = omega (arith, decimal-short c.args.levels, decimal-short c.args.columns, decimal-short c.args.count)
-
 pub returns : goal.returns
 unfolding head_text
 returns c =

@@ -5,9 +5,8 @@ use Rattle.job_text.proofs.Lengths.{item-short}
 use Rattle.job_text.proofs.Written.{wrote-append}
 use Rattle.job_text.proofs.print.put_refusal.Goals as goal
 
-pub put-requires : goal.put-requires
-put-requires c = omega (arith, item-short refused_word c.args.number)
-
 pub returns : goal.returns
 unfolding refused_text
-returns c = wrote-append (omega (arith, item-short refused_word c.args.number)) c.put_item-end.ensures c.put.ensures
+returns c =
+    let short = item-short refused_word c.from.result in
+    rw (← c.from.ensures) (wrote-append (omega arith) c.put_item-end.ensures c.put.ensures)

@@ -16,14 +16,15 @@ rows_next row flags = rw add-one
 
 pub loop-row-init : goal.loop-row-init
 unfolding rows_text
-loop-row-init c = ((omega arith, omega arith), refl, wrote_none c.args.at c.args.out.now)
+loop-row-init c = record { place = omega arith; sized = refl; wrote = wrote_none c.args.at c.args.out.now }
 
 pub loop-row-preserved : goal.loop-row-preserved
 loop-row-preserved c =
     let turn = c.loop-row in
     let line = c.put_row-end in
-    let short = row-short turn.row (get_or c.args.flags.now turn.row 0) in (
-      (omega arith, omega arith),
-      omega arith,
-      rw rows_next (wrote-append (omega arith) turn.invariant.2 line.ensures),
-    )
+    let short = row-short turn.row (get_or c.args.flags.now turn.row 0) in
+    record {
+      place = omega arith;
+      sized = omega arith;
+      wrote = rw rows_next (wrote-append (omega arith) turn.invariant.wrote line.ensures);
+    }

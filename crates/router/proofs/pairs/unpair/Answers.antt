@@ -3,7 +3,7 @@ use mathlib.Core.Path.{◌≡◌, ap, ap₂, ◌∙◌}
 use mathlib.Core.List.{List}
 use Prim.Native.Nat.{ℕ, suc, ◌+◌, ◌-◌, ◌*◌, ◌<◌}
 use native.Mathlib.Omega.{arith}
-use lib.ListN.{length, get_or, set, length-set}
+use lib.ListN.{length, get_or, set}
 use Rattle.parity.proofs.Filled.{filled, filled_next}
 use Rattle.router.proofs.pairs.unpair.Invariants.{low, high}
 use Rattle.router.proofs.pairs.unpair.Goals as goal
@@ -20,11 +20,7 @@ loop-i-preserved c =
     let pairs = args.pairs.now in
     let odd : turn.i + turn.i + 1 ≡ suc (2 * turn.i) = omega arith in
     let even : turn.i + turn.i ≡ 2 * turn.i = omega arith in (
-      omega arith,
-      simp length-set turn.invariant.1,
-      simp length-set turn.invariant.2,
-      stored (low args.top pairs) args.lows.now turn.lows turn.i c.complement.result (omega arith) turn.invariant.3
-          (c.complement.ensures ∙ ap (λ j. args.top - get_or pairs j 0) odd),
-      stored (high pairs) args.highs.now turn.highs turn.i (get_or pairs (turn.i + turn.i) 0) (omega arith) turn.invariant.4
-          (ap (λ j. get_or pairs j 0) even),
+      stored (low args.top pairs) args.lows.now turn.lows turn.i _ (omega arith) turn.invariant.0
+          (c.saturating_sub.ensures ∙ ap (λ j. args.top - get_or pairs j 0) odd),
+      stored (high pairs) args.highs.now turn.highs turn.i _ (omega arith) turn.invariant.1 (ap (λ j. get_or pairs j 0) even),
     )

@@ -1,8 +1,8 @@
 -- `router::pairs::unpair` meets its contract: the first i places of both buffers are written, the rest is as it was. Assumes nothing.
 use mathlib.Core.Path.{◌≡◌}
 use mathlib.Core.List.{List}
-use Prim.Native.Nat.{ℕ, suc, ◌-◌, ◌*◌, ◌≤◌}
-use lib.ListN.{length, get_or}
+use Prim.Native.Nat.{ℕ, suc, ◌-◌, ◌*◌}
+use lib.ListN.{get_or}
 use Rattle.parity.proofs.Filled.{filled}
 use Rattle.router.proofs.pairs.unpair.Given as goal
 
@@ -15,8 +15,4 @@ high pairs i = get_or pairs (2 * i) 0
 
 abbrev pub invariant-loop-i : goal.invariant-loop-i
 invariant-loop-i l =
-    (l.i ≤ length l.initial.lows) × (length l.lows ≡ length l.initial.lows) × (length l.highs ≡ length l.initial.highs)
-    × (l.lows ≡ filled (low l.top l.pairs) l.initial.lows l.i) × (l.highs ≡ filled (high l.pairs) l.initial.highs l.i)
-
-abbrev pub decreases-loop-i : goal.decreases-loop-i
-decreases-loop-i l = length l.initial.lows - l.i
+    (l.lows ≡ filled (low l.top l.pairs) l.initial.lows l.i) × (l.highs ≡ filled (high l.pairs) l.initial.highs l.i)

@@ -13,13 +13,12 @@ use Rattle.parity.specs.Shape.{levels, columns}
 use Rattle.parity.specs.Questions.{first_no}
 use Rattle.parity.specs.declared.Shape.{Shape}
 use Rattle.parity.proofs.Comparator.{reaches}
-use Rattle.shape.specs.Answers.{Found, row, none, row_or_none, accepted, refused, answering, first_says}
+use Rattle.std.specs.declared.option.Option.{Option}
+use Rattle.std.specs.declared.option.Option.TheVariants.{Some, None}
+use Rattle.shape.specs.Answers.{Found, row, none, row_or_none, accepted, answering, found_of}
 use Rattle.shape.specs.Bounds.{Within}
 use Rattle.shape.specs.Shapes.{Passed}
-use Rattle.shape.specs.declared.answer.First.{First}
-use Rattle.shape.specs.declared.answer.First.TheVariants as firsts
 use Rattle.shape.specs.declared.sizes.Sizes.{Sizes}
-use Rattle.shape.proofs.Refusals.{said-number}
 use Rattle.array_memory.specs.Geometry.{row_match}
 use Rattle.array_memory.specs.Memory.{Memory, with_array, no_memory}
 use Rattle.array_lookup.specs.Lookups.{array_questions, first_arguments, first_call}
@@ -29,9 +28,8 @@ use Rattle.router_ranges.proofs.Ranges.{inputs-reach}
 use Rattle.router_questions.specs.Questions.{route_questions}
 use Rattle.router_questions.proofs.Asked.{RouteTaken, route-taken, route-asks}
 use Rattle.router.specs.Routes.{nowhere, destination, route_call}
-use Rattle.router.specs.Answers.{routed_says}
-use Rattle.router.specs.declared.answer.Routed.{Routed}
-use Rattle.router.specs.declared.answer.Routed.TheVariants as routes
+use Rattle.router.specs.Answers.{sent_to}
+use Rattle.router.specs.declared.route.Sent.{Sent}
 use Rattle.router.proofs.PairLaws.{levels-within, Pairable, pairs-ask, pairs-held}
 use Rattle.router.proofs.route.route_lent.Goals as goal
 
@@ -62,33 +60,23 @@ module _ (s : Shape) (mem : Memory) (inputs : List ℕ) where
   unfolding first_call
   row_below i e = subst (λ a. Below s.rows a.value) e (found_below fails s.rows matching)
 
-  -- where no question fails, nothing is refused
-  not-refused : (number : ℕ) → fails ≡ 0 → first_call s mem inputs ≡ refused none number → ⊥
-  unfolding first_call
-  not-refused number passed e = omega (arith, passed, said-number none (row_or_none s.rows matching) fails number (sym e))
-
 -- the route by first match's answer
-abbrev routed : List ℕ → First → Routed
-routed belts (firsts.Row i) = routes.To i (get_or belts i 0)
-routed belts firsts.Nothing = routes.Nothing
-routed belts (firsts.Refused number) = routes.Refused number
+abbrev routed : List ℕ → Option ℕ → Option Sent
+routed belts (Some i) = Some (record { row = i; belt = get_or belts i 0 })
+routed belts None = None
 
 route-said :
-    (s : Shape) (mem : Memory) (belts values : List ℕ) (first : First)
+    (s : Shape) (mem : Memory) (belts values : List ℕ) (first : Option ℕ)
     → first_no (route_questions s (length mem.cells) (length mem.lines) (length belts) values) ≡ 0
-    → first_call s mem (bottle_inputs (levels s) values) ≡ first_says first → route_call s mem belts values ≡ routed_says (routed belts first)
+    → first_call s mem (bottle_inputs (levels s) values) ≡ accepted (found_of first)
+    → route_call s mem belts values ≡ accepted (sent_to (routed belts first))
 unfolding route_call
 route-said s mem belts values first passed e =
-    ap₂ (λ n a. answering nowhere n (destination belts a.value)) passed e ∙ go first e
+    ap₂ (λ n a. answering nowhere n (destination belts a.value)) passed e ∙ ap accepted (go first)
   where
-    go :
-        (first : First) → first_call s mem (bottle_inputs (levels s) values) ≡ first_says first
-        → accepted (destination belts (first_says first).value) ≡ routed_says (routed belts first)
-    go (firsts.Row i) e = refl
-    go firsts.Nothing e = refl
-    go (firsts.Refused number) e =
-        let asked = route-asks s (length mem.cells) (length mem.lines) (length belts) values (route-taken s _ _ _ values passed) in
-        absurd (not-refused s mem (bottle_inputs (levels s) values) number asked e)
+    go : (first : Option ℕ) → destination belts (found_of first) ≡ sent_to (routed belts first)
+    go (Some i) = refl
+    go None = refl
 
 -- ---- the call
 
@@ -127,12 +115,12 @@ module _
 
     -- once first match has answered
     module _
-        (answer known : First) (answers : (mem : Memory) → first_call s (with_array cells lines mem) inputs ≡ first_says answer)
+        (answer known : Option ℕ) (answers : (mem : Memory) → first_call s (with_array cells lines mem) inputs ≡ accepted (found_of answer))
         (is : answer ≡ known) where
-      found : (mem : Memory) → first_call s (with_array cells lines mem) (bottle_inputs (levels s) values) ≡ first_says known
-      found mem = ap (first_call s (with_array cells lines mem)) (sym held.part) ∙ answers mem ∙ ap first_says is
+      found : (mem : Memory) → first_call s (with_array cells lines mem) (bottle_inputs (levels s) values) ≡ accepted (found_of known)
+      found mem = ap (first_call s (with_array cells lines mem)) (sym held.part) ∙ answers mem ∙ ap (λ first. accepted (found_of first)) is
 
-      told : (mem : Memory) → route_call s (with_array cells lines mem) belts values ≡ routed_says (routed belts known)
+      told : (mem : Memory) → route_call s (with_array cells lines mem) belts values ≡ accepted (sent_to (routed belts known))
       told mem = route-said s (with_array cells lines mem) belts values known p.none (found mem)
 
 pub overflow_sub-top : goal.overflow_sub-top
@@ -174,32 +162,26 @@ first_below-requires-clause-inputs_value c =
     let args = c.args in
     inputs-below args.shape args.sizes args.cells.now args.lines.now args.belts.now args.values.now c.requires c.pair.new.to c.pair.ensures
 
+-- no match
+pub returns-in_err-row : goal.returns-in_err-row
+returns-in_err-row c =
+    let args = c.args in
+    λ mem. told args.shape args.sizes args.cells.now args.lines.now args.belts.now args.values.now c.requires c.pair.new.to c.pair.ensures
+    _ None c.first_below.ensures c.in_err-row.was mem
+    ∙ ap (λ sent. accepted (sent_to sent)) (sym c.from_residual.ensures)
+
 pub bounds-belts-row : goal.bounds-belts-row
 bounds-belts-row c =
     let args = c.args in
     let first =
     found args.shape args.sizes args.cells.now args.lines.now args.belts.now args.values.now c.requires c.pair.new.to c.pair.ensures
-    c.first_below.result _ c.first_below.ensures c.in-Row.is no_memory in
+    _ _ c.first_below.ensures c.in_ok-row.was no_memory in
     let below = row_below args.shape (with_array args.cells.now args.lines.now no_memory) (bottle_inputs (levels args.shape) args.values.now) _ first in
     omega (arith, below, (given args.shape args.sizes args.cells.now args.lines.now args.belts.now args.values.now c.requires).belts)
 
 -- a row
-pub returns-in-Row : goal.returns-in-Row
-returns-in-Row c =
+pub returns : goal.returns
+returns c =
     let args = c.args in
     told args.shape args.sizes args.cells.now args.lines.now args.belts.now args.values.now c.requires c.pair.new.to c.pair.ensures
-    c.first_below.result _ c.first_below.ensures c.in-Row.is
-
--- no match
-pub returns-in-Nothing : goal.returns-in-Nothing
-returns-in-Nothing c =
-    let args = c.args in
-    told args.shape args.sizes args.cells.now args.lines.now args.belts.now args.values.now c.requires c.pair.new.to c.pair.ensures
-    c.first_below.result _ c.first_below.ensures c.in-Nothing.is
-
--- refused
-pub returns-in-Refused : goal.returns-in-Refused
-returns-in-Refused c =
-    let args = c.args in
-    told args.shape args.sizes args.cells.now args.lines.now args.belts.now args.values.now c.requires c.pair.new.to c.pair.ensures
-    c.first_below.result _ c.first_below.ensures c.in-Refused.is
+    _ _ c.first_below.ensures c.in_ok-row.was

@@ -21,4 +21,4 @@ some (suc bound) (v ∷ vs) h = sym (greatest-below (suc bound) (zero-lt-suc bou
 pub returns : goal.returns
 returns c =
     let args = c.args in
-    ap (λ n. ltb n args.bound) (c.wide.ensures ∙ c.largest.ensures) ∙ some args.bound args.bytes.now c.if-bytes-eq0.false
+    ap (λ n. ltb n args.bound) (c.from.ensures ∙ c.largest.ensures) ∙ some args.bound args.bytes.now c.if-bytes-eq0.false

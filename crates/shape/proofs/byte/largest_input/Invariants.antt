@@ -1,12 +1,8 @@
--- `shape::byte::largest_input` meets its contract: the largest so far is that of the inputs before place i. Assumes nothing.
+-- `shape::byte::largest_input` meets its contract: the largest so far is that of the inputs before the one in hand. Assumes nothing.
 use mathlib.Core.Path.{◌≡◌}
-use Prim.Native.Nat.{◌-◌, ◌≤◌}
-use lib.ListN.{length, take}
+use lib.ListN.{take}
 use Rattle.parity.specs.Lists.{greatest}
 use Rattle.shape.proofs.byte.largest_input.Given as goal
 
-abbrev pub invariant-loop-i : goal.invariant-loop-i
-invariant-loop-i l = (l.i ≤ length l.inputs) × (l.most ≡ greatest (take l.i l.inputs))
-
-abbrev pub decreases-loop-i : goal.decreases-loop-i
-decreases-loop-i l = length l.inputs - l.i
+abbrev pub invariant-loop-input : goal.invariant-loop-input
+invariant-loop-input l = l.most ≡ greatest (take l.input-index l.inputs)

@@ -13,8 +13,8 @@ pub returns-then-power-gt-MAX_LEVELS : goal.returns-then-power-gt-MAX_LEVELS
 returns-then-power-gt-MAX_LEVELS c =
     let ρ = c.args.radix in
     let b = c.args.digits in
-    let i = c.loop-i.i in
-    let next : c.loop-i.power * ρ ≡ ρ ^ suc i
-    = ap (λ x. x * ρ) c.loop-i.invariant.1 ∙ sym (pow-suc ρ i) in
+    let i = c.loop.counter in
+    let next : c.loop.power * ρ ≡ ρ ^ suc i
+    = ap (λ x. x * ρ) c.loop.invariant.0 ∙ sym (pow-suc ρ i) in
     let more : ρ ^ suc i ≤ ρ ^ b = pow-le-pow_right (omega arith) (omega arith) in
     sym (ap (λ t. cond t (ρ ^ b) 257) (lt-leb (ρ ^ b) 256 (omega arith)))

@@ -26,5 +26,5 @@ pub returns : goal.returns
 unfolding right largest
 returns c =
     let args = c.args in
-    c.wide.ensures
+    c.from.ensures
     ∙ eqb-true _ _ (grid-at 3 8 right refl args.errors args.checks (omega arith) (omega arith) (omega arith) (omega arith))

@@ -1,6 +1,6 @@
 -- `shape::sizes::least_checks` meets its contract: what is left of the search gives the whole search's answer. Assumes nothing.
 use mathlib.Core.Path.{◌≡◌}
-use Prim.Native.Nat.{ℕ, ◌-◌, ◌≤◌}
+use Prim.Native.Nat.{ℕ}
 use lib.Dec.{leb}
 use Rattle.parity.specs.Shape.{largest, redundancy}
 use Rattle.shape.proofs.Search.{searched}
@@ -11,7 +11,4 @@ abbrev pub from : ℕ → ℕ → ℕ → ℕ
 from τ k = searched (λ r. leb k (largest τ r)) 9
 
 abbrev pub invariant-loop-checks : goal.invariant-loop-checks
-invariant-loop-checks l = (1 ≤ l.checks) × (l.checks ≤ 9) × (from l.errors l.width l.checks ≡ redundancy l.errors l.width)
-
-abbrev pub decreases-loop-checks : goal.decreases-loop-checks
-decreases-loop-checks l = 9 - l.checks
+invariant-loop-checks l = from l.errors l.width l.checks ≡ redundancy l.errors l.width

@@ -1,7 +1,0 @@
--- `panel::search_block` meets its contract: what is left of the search gives the whole search's answer, and as many flags were read as were
--- passed over. Assumes nothing.
-use Rattle.panel.proofs.Searches.{left-all}
-use Rattle.panel.proofs.search_block.Goals as goal
-
-pub loop-read-init : goal.loop-read-init
-loop-read-init c = left-all _
