@@ -85,8 +85,8 @@ def code(path):
     return re.sub(rf"(?m)(^|\s){mark}.*$", r"\1", path.read_text(encoding="utf8"))
 
 
-ITEM = re.compile(r'(?:pub(?:\(crate\))? )?(?:extern "C" )?(fn|const|struct|enum|mod) (\w+)')
-MEMBER = re.compile(r" {4}(?:pub(?:\(crate\))? )?(\w+)(?=[:,(])")
+ITEM = re.compile(r'(?:pub(?:\(crate\))? )?(?:extern "C" )?(fn|const|struct|enum|type|mod) (\w+)')
+MEMBER = re.compile(r" {4}(?:pub(?:\(crate\))? )?(\w+)(?=[:,(]| = )")
 TYPE = re.compile(r"( *)(?:pub )?(?:record|data) ([^\s{(]\S*)")
 NAME = re.compile(r"( *)(?:(?:abbrev|unfoldable|pub) )*([^\s(){};,]+) :(?: (.*))?$")
 
