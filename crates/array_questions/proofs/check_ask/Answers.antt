@@ -3,9 +3,9 @@ use mathlib.Core.Path.{◌≡◌, refl, ap, ◌∙◌}
 use mathlib.Core.Bool.{Bool, and-true}
 use mathlib.Core.List.{List, [], ◌∷◌, ◌++◌}
 use Prim.Native.Nat.{ℕ}
-use lib.Dec.{eqb, ltb}
+use lib.Dec.{eqb}
 use lib.ListN.{length}
-use Rattle.parity.specs.Lists.{every, alongside}
+use Rattle.parity.specs.Lists.{alongside}
 use Rattle.parity.specs.Shape.{levels, columns, cell_count}
 use Rattle.parity.specs.Questions.{Question, question, first_no, place_question, levels_question, lengths_question}
 use Rattle.parity.specs.declared.Shape.{Shape}
@@ -14,6 +14,7 @@ use Rattle.shape.specs.declared.answer.Refusal.TheVariants.{Level}
 use Rattle.shape.specs.declared.sizes.Sizes.{Sizes}
 use Rattle.shape.proofs.Refusals.{shape-yes, shape-no, one-asked, asked-yes, asked-no, says-sizes}
 use Rattle.array_memory.specs.Lengths.{cells_wanted}
+use Rattle.array_questions.proofs.Leveled.{leveled}
 use Rattle.array_questions.proofs.check_ask.Goals as goal
 
 module _ (s : Shape) (cells : ℕ) (row : ℕ) (given : List ℕ) (finished : ℕ) where
@@ -32,10 +33,6 @@ module _ (s : Shape) (cells : ℕ) (row : ℕ) (given : List ℕ) (finished : �
   tested told z e test =
       let wanted = test ∙ ap (λ z. alongside eqb (length given ∷ finished ∷ []) (s.width ∷ z.columns ∷ [])) e in
       rw (e, wanted, and-true (eqb cells (cell_count s))) refl
-
-  below :
-      (told : Bool) (z : Sizes) → z ≡ sizes_of s → told ≡ every (λ v. ltb v z.levels) given → first_no (question 8 told ∷ []) ≡ first_no eight
-  below told z e test = ap (λ t. first_no (question 8 t ∷ [])) (test ∙ ap (λ z. every (λ v. ltb v z.levels) given) e)
 
 -- the shape
 pub returns-in_err-sizes : goal.returns-in_err-sizes
@@ -61,7 +58,7 @@ returns-in_err-unless c =
     let seven = asked-yes refl p (more a.shape a.cells a.row a.given.now a.finished) c.ask.ensures
     (tested a.shape a.cells a.row a.given.now a.finished _ _ p.sizes c.same_lengths.ensures) c.in_ok-ask.was in
     asked-no refl seven (eight a.shape a.cells a.row a.given.now a.finished) (one-asked Level _ c.unless.ensures)
-    (below a.shape a.cells a.row a.given.now a.finished _ _ p.sizes c.all_below.ensures) c.in_err-unless.was _ c.from_residual-in_err-unless.ensures.1 []
+    (leveled a.shape a.given.now _ _ p.sizes c.all_below.ensures) c.in_err-unless.was _ c.from_residual-in_err-unless.ensures.1 []
 
 pub returns : goal.returns
 returns c =
@@ -71,4 +68,4 @@ returns c =
     (tested a.shape a.cells a.row a.given.now a.finished _ _ p.sizes c.same_lengths.ensures) c.in_ok-ask.was in
     says-sizes _ a.shape
     (asked-yes refl seven (eight a.shape a.cells a.row a.given.now a.finished) (one-asked Level _ c.unless.ensures)
-    (below a.shape a.cells a.row a.given.now a.finished _ _ p.sizes c.all_below.ensures) c.in_ok-unless.was)
+    (leveled a.shape a.given.now _ _ p.sizes c.all_below.ensures) c.in_ok-unless.was)

@@ -1,11 +1,10 @@
 -- `array_questions::check_commit` meets its contract: 6 on the cells and on the finished row, 7, 8, and then 17, where the row is of n levels. Assumes nothing.
-use mathlib.Core.Path.{◌≡◌, refl, ap, ◌∙◌}
-use mathlib.Core.Bool.{Bool, and-true}
+use mathlib.Core.Path.{◌≡◌, refl, ap}
+use mathlib.Core.Bool.{and-true}
 use mathlib.Core.List.{List, [], ◌∷◌, ◌++◌}
 use Prim.Native.Nat.{ℕ}
-use lib.Dec.{eqb, ltb}
+use lib.Dec.{eqb}
 use lib.ListN.{length}
-use Rattle.parity.specs.Lists.{every}
 use Rattle.parity.specs.Shape.{levels, columns, cell_count}
 use Rattle.parity.specs.Questions.{Question, question, first_no, place_question, levels_question, sound_question, lengths_question}
 use Rattle.parity.specs.declared.Shape.{Shape}
@@ -14,6 +13,7 @@ use Rattle.shape.specs.declared.answer.Refusal.TheVariants.{Level, Finished}
 use Rattle.shape.specs.declared.sizes.Sizes.{Sizes}
 use Rattle.shape.proofs.Refusals.{shape-yes, shape-no, one-asked, asked-yes, asked-no, says-sizes}
 use Rattle.array_memory.specs.Lengths.{cells_wanted}
+use Rattle.array_questions.proofs.Leveled.{leveled}
 use Rattle.array_questions.proofs.check_commit.Goals as goal
 
 module _ (s : Shape) (cells : ℕ) (row : ℕ) (finished : List ℕ) where
@@ -29,10 +29,6 @@ module _ (s : Shape) (cells : ℕ) (row : ℕ) (finished : List ℕ) where
       (z : Sizes) → z ≡ sizes_of s → first_no
       (question 6 (eqb cells z.cells) ∷ question 6 (eqb (length finished) z.columns) ∷ place_question row s.rows ∷ []) ≡ first_no more
   tested z e = rw (e, and-true (eqb cells (cell_count s)), and-true (eqb (length finished) (columns s))) refl
-
-  below :
-      (told : Bool) (z : Sizes) → z ≡ sizes_of s → told ≡ every (λ v. ltb v z.levels) finished → first_no (question 8 told ∷ []) ≡ first_no eight
-  below told z e test = ap (λ t. first_no (question 8 t ∷ [])) (test ∙ ap (λ z. every (λ v. ltb v z.levels) finished) e)
 
 -- the shape
 pub returns-in_err-sizes : goal.returns-in_err-sizes
@@ -57,7 +53,7 @@ returns-in_err-unless c =
     let seven = asked-yes refl p (more a.shape a.cells a.row a.finished.now) c.ask.ensures (tested a.shape a.cells a.row a.finished.now _ p.sizes)
     c.in_ok-ask.was in
     asked-no refl seven (eight a.shape a.cells a.row a.finished.now) (one-asked Level _ c.unless.ensures)
-    (below a.shape a.cells a.row a.finished.now _ _ p.sizes c.all_below.ensures) c.in_err-unless.was _ c.from_residual-in_err-unless.ensures.1
+    (leveled a.shape a.finished.now _ _ p.sizes c.all_below.ensures) c.in_err-unless.was _ c.from_residual-in_err-unless.ensures.1
     (sound_question a.shape a.finished.now ∷ [])
 
 -- 17
@@ -69,7 +65,7 @@ returns-in_err-unless-2 c =
     c.in_ok-ask.was in
     let leveled =
     asked-yes refl seven (eight a.shape a.cells a.row a.finished.now) (one-asked Level _ c.unless.ensures)
-    (below a.shape a.cells a.row a.finished.now _ _ p.sizes c.all_below.ensures) c.in_ok-unless.was in
+    (leveled a.shape a.finished.now _ _ p.sizes c.all_below.ensures) c.in_ok-unless.was in
     asked-no refl leveled (sound_question a.shape a.finished.now ∷ []) (one-asked Finished _ c.unless-2.ensures)
     (ap (λ t. first_no (question 17 t ∷ [])) c.is_balanced.ensures) c.in_err-unless-2.was _ c.from_residual-in_err-unless-2.ensures.1 []
 
@@ -81,7 +77,7 @@ returns c =
     c.in_ok-ask.was in
     let leveled =
     asked-yes refl seven (eight a.shape a.cells a.row a.finished.now) (one-asked Level _ c.unless.ensures)
-    (below a.shape a.cells a.row a.finished.now _ _ p.sizes c.all_below.ensures) c.in_ok-unless.was in
+    (leveled a.shape a.finished.now _ _ p.sizes c.all_below.ensures) c.in_ok-unless.was in
     says-sizes _ a.shape
     (asked-yes refl leveled (sound_question a.shape a.finished.now ∷ []) (one-asked Finished _ c.unless-2.ensures)
     (ap (λ t. first_no (question 17 t ∷ [])) c.is_balanced.ensures) c.in_ok-unless-2.was)

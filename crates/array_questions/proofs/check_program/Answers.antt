@@ -1,11 +1,10 @@
 -- `array_questions::check_program` meets its contract: 6 on the cells and on the levels, 7, then 8. Assumes nothing.
-use mathlib.Core.Path.{◌≡◌, refl, ap, ◌∙◌}
-use mathlib.Core.Bool.{Bool, and-true}
+use mathlib.Core.Path.{◌≡◌, refl}
+use mathlib.Core.Bool.{and-true}
 use mathlib.Core.List.{List, [], ◌∷◌, ◌++◌}
 use Prim.Native.Nat.{ℕ}
-use lib.Dec.{eqb, ltb}
+use lib.Dec.{eqb}
 use lib.ListN.{length}
-use Rattle.parity.specs.Lists.{every}
 use Rattle.parity.specs.Shape.{levels, cell_count}
 use Rattle.parity.specs.Questions.{Question, question, first_no, place_question, levels_question, lengths_question}
 use Rattle.parity.specs.declared.Shape.{Shape}
@@ -14,6 +13,7 @@ use Rattle.shape.specs.declared.answer.Refusal.TheVariants.{Level}
 use Rattle.shape.specs.declared.sizes.Sizes.{Sizes}
 use Rattle.shape.proofs.Refusals.{shape-yes, shape-no, one-asked, asked-yes, asked-no, says-sizes}
 use Rattle.array_memory.specs.Lengths.{cells_wanted}
+use Rattle.array_questions.proofs.Leveled.{leveled}
 use Rattle.array_questions.proofs.check_program.Goals as goal
 
 module _ (s : Shape) (cells : ℕ) (row : ℕ) (given : List ℕ) where
@@ -29,10 +29,6 @@ module _ (s : Shape) (cells : ℕ) (row : ℕ) (given : List ℕ) where
       (z : Sizes) → z ≡ sizes_of s → first_no
       (question 6 (eqb cells z.cells) ∷ question 6 (eqb (length given) s.width) ∷ place_question row s.rows ∷ []) ≡ first_no more
   tested z e = rw (e, and-true (eqb cells (cell_count s)), and-true (eqb (length given) s.width)) refl
-
-  below :
-      (told : Bool) (z : Sizes) → z ≡ sizes_of s → told ≡ every (λ v. ltb v z.levels) given → first_no (question 8 told ∷ []) ≡ first_no eight
-  below told z e test = ap (λ t. first_no (question 8 t ∷ [])) (test ∙ ap (λ z. every (λ v. ltb v z.levels) given) e)
 
 -- the shape
 pub returns-in_err-sizes : goal.returns-in_err-sizes
@@ -56,7 +52,7 @@ returns-in_err-unless c =
     let p = shape-yes a.shape c.check_shape.ensures c.in_ok-sizes.was in
     let seven = asked-yes refl p (more a.shape a.cells a.row a.given.now) c.ask.ensures (tested a.shape a.cells a.row a.given.now _ p.sizes) c.in_ok-ask.was in
     asked-no refl seven (eight a.shape a.cells a.row a.given.now) (one-asked Level _ c.unless.ensures)
-    (below a.shape a.cells a.row a.given.now _ _ p.sizes c.all_below.ensures) c.in_err-unless.was _ c.from_residual-in_err-unless.ensures.1 []
+    (leveled a.shape a.given.now _ _ p.sizes c.all_below.ensures) c.in_err-unless.was _ c.from_residual-in_err-unless.ensures.1 []
 
 pub returns : goal.returns
 returns c =
@@ -65,4 +61,4 @@ returns c =
     let seven = asked-yes refl p (more a.shape a.cells a.row a.given.now) c.ask.ensures (tested a.shape a.cells a.row a.given.now _ p.sizes) c.in_ok-ask.was in
     says-sizes _ a.shape
     (asked-yes refl seven (eight a.shape a.cells a.row a.given.now) (one-asked Level _ c.unless.ensures)
-    (below a.shape a.cells a.row a.given.now _ _ p.sizes c.all_below.ensures) c.in_ok-unless.was)
+    (leveled a.shape a.given.now _ _ p.sizes c.all_below.ensures) c.in_ok-unless.was)

@@ -1,20 +1,21 @@
 -- `router_questions::check_route` meets its contract: 18, 6 on the cells, the lines, the belts and the values, then 8. Assumes nothing.
-use mathlib.Core.Path.{◌≡◌, refl, sym, ap}
+use mathlib.Core.Path.{◌≡◌, refl}
 use mathlib.Core.Bool.{Bool}
 use mathlib.Core.List.{List, [], ◌∷◌, ◌++◌}
 use Prim.Native.Nat.{ℕ}
-use lib.Dec.{eqb, ltb}
+use lib.Dec.{eqb}
 use lib.ListN.{length}
-use Rattle.parity.specs.Lists.{every, alongside}
+use Rattle.parity.specs.Lists.{alongside}
 use Rattle.parity.specs.Shape.{levels}
 use Rattle.parity.specs.Questions.{Question, question, first_no, levels_question}
 use Rattle.parity.specs.declared.Shape.{Shape}
 use Rattle.shape.specs.Shapes.{sizes_of}
 use Rattle.shape.specs.declared.answer.Refusal.TheVariants.{Level}
 use Rattle.shape.specs.declared.sizes.Sizes.{Sizes}
-use Rattle.shape.proofs.Refusals.{shape-yes, shape-no, one-asked, asked-yes, asked-no, says-sizes, levels-tested}
+use Rattle.shape.proofs.Refusals.{shape-yes, shape-no, one-asked, asked-yes, asked-no, says-sizes}
 use Rattle.router_ranges.specs.Ranges.{features}
 use Rattle.router_questions.specs.Questions.{features_question}
+use Rattle.array_questions.proofs.Leveled.{leveled}
 use Rattle.router_questions.proofs.Asking.{lengths_first, lengths-tested}
 use Rattle.router_questions.proofs.check_route.Goals as goal
 
@@ -37,10 +38,6 @@ module _ (s : Shape) (cells lines belts : ℕ) (values : List ℕ) where
       (told : Bool) (z : Sizes) → z ≡ sizes_of s → told ≡ alongside eqb (cells ∷ lines ∷ belts ∷ lent) (z.cells ∷ s.rows ∷ s.rows ∷ wanted)
       → first_no (features_question s ∷ question 6 told ∷ []) ≡ first_no six
   tested told z e test = lengths-tested s cells (lines ∷ belts ∷ []) (s.rows ∷ s.rows ∷ []) lent wanted [] told z e refl test
-
-  below :
-      (told : Bool) (z : Sizes) → z ≡ sizes_of s → told ≡ every (λ v. ltb v z.levels) values → first_no (question 8 told ∷ []) ≡ first_no eight
-  below told z e test = ap (λ t. first_no (question 8 t ∷ [])) (sym (levels-tested s (ap (λ z. z.levels) e) values test))
 
 -- the shape
 pub returns-in_err-sizes : goal.returns-in_err-sizes
@@ -69,7 +66,7 @@ returns-in_err-unless c =
     asked-yes refl p (six a.shape a.cells a.lines a.belts a.values.now) c.ask.ensures
     (tested a.shape a.cells a.lines a.belts a.values.now _ _ p.sizes c.same_lengths.ensures) c.in_ok-ask.was in
     asked-no refl sized (eight a.shape a.cells a.lines a.belts a.values.now) (one-asked Level _ c.unless.ensures)
-    (below a.shape a.cells a.lines a.belts a.values.now _ _ p.sizes c.all_below.ensures) c.in_err-unless.was _
+    (leveled a.shape a.values.now _ _ p.sizes c.all_below.ensures) c.in_err-unless.was _
     c.from_residual-in_err-unless.ensures.1 []
 
 pub returns : goal.returns
@@ -82,4 +79,4 @@ returns c =
     (tested a.shape a.cells a.lines a.belts a.values.now _ _ p.sizes c.same_lengths.ensures) c.in_ok-ask.was in
     says-sizes _ a.shape
     (asked-yes refl sized (eight a.shape a.cells a.lines a.belts a.values.now) (one-asked Level _ c.unless.ensures)
-    (below a.shape a.cells a.lines a.belts a.values.now _ _ p.sizes c.all_below.ensures) c.in_ok-unless.was)
+    (leveled a.shape a.values.now _ _ p.sizes c.all_below.ensures) c.in_ok-unless.was)
