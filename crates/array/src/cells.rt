@@ -11,6 +11,7 @@ use acam::sound::is_sound;
 use array_questions::{check_read, check_sound};
 use parity::Shape;
 use shape::answer::Answer;
+use shape::byte::copy;
 use shape::sizes::Sizes;
 
 pub fn sound_lent(shape: Shape, sizes: Sizes, cells: &[u8], row: usize) -> bool
@@ -42,7 +43,7 @@ pub fn read_lent(shape: Shape, sizes: Sizes, cells: &[u8], row: usize, out: &mut
     let width = shape.width;
     let start = row * columns;
     let end = start + width;
-    out.copy_from_slice(&cells[start..end]);
+    copy(&cells[start..end], out);
 }
 
 // Read: copies the k rule cells of a row out.

@@ -10,6 +10,7 @@ ghost use Rattle.array.specs.Rows.{RowLent};
 
 use acam::encode::write_checks;
 use parity::Shape;
+use shape::byte::copy;
 use shape::sizes::Sizes;
 
 // Writes k levels into a lent row of n cells, and its check cells.
@@ -18,7 +19,7 @@ pub(crate) fn program_row(shape: Shape, checks: usize, row: &mut [u8], given: &[
     ensures { row.new ≡ encode shape given.now }
 {
     let width = shape.width;
-    row[..width].copy_from_slice(given);
+    copy(given, &mut row[..width]);
     write_checks(shape, checks, row);
 }
 
@@ -42,5 +43,5 @@ pub fn put_row(shape: Shape, sizes: Sizes, cells: &mut [u8], row: usize, finishe
     let columns = sizes.columns;
     let start = row * columns;
     let end = start + columns;
-    cells[start..end].copy_from_slice(finished);
+    copy(finished, &mut cells[start..end]);
 }

@@ -7,28 +7,18 @@ use native.Mathlib.Nat.{le_of_suc-le-suc, not-suc-le-zero}
 use native.Mathlib.Numerals.{add-one}
 use native.Mathlib.Omega.{arith}
 use lib.ListN.{length, get_or, take}
-use lib.Dec.{ltb}
 use lib.Seq.{take-suc}
 use borrow.Author.Tests.{ne_eqb}
-use Rattle.std.proofs.Common.{Some, None, position}
-use Rattle.std.proofs.lemmas.List.Recursion.{is_position_or_len}
 use Rattle.parity.specs.Lists.{sum_over}
 use Rattle.parity.proofs.ListLaws.{sum-take-suc}
 use Rattle.shape.proofs.Search.{search-shift}
 use Rattle.array_memory.specs.Blocks.{is_flagged}
 use Rattle.array_memory.proofs.FlagCounts.{flag-zero}
-use Rattle.panel.specs.Panel.{first_nonzero, any_nonzero}
+use Rattle.panel.specs.Panel.{first_nonzero}
 
 first-cons : (x : ℕ) (xs : List ℕ) → first_nonzero (x ∷ xs) ≡ cond (is_flagged x) 0 (suc (first_nonzero xs))
 unfolding first_nonzero
 first-cons x xs = ap (cond (is_flagged x) 0) (search-shift (λ i. is_flagged (get_or (x ∷ xs) i 0)) (length xs) 0)
-
--- std's word for that place
-pub first-place : (xs : List ℕ) → position is_flagged xs ≡ cond (any_nonzero xs) (Some (first_nonzero xs)) None
-unfolding first_nonzero
-first-place xs =
-    let same = is_position_or_len first_nonzero is_flagged refl (λ x xs. first-cons x xs ∙ ap (cond (is_flagged x) 0) (omega arith)) xs in
-    ap (λ n. cond (ltb n (length xs)) (Some n) None) (sym same)
 
 pub first-before : (xs : List ℕ) (j : ℕ) → j < first_nonzero xs → get_or xs j 0 ≡ 0
 unfolding first_nonzero

@@ -1,4 +1,5 @@
--- First flags, readings, and the proofs of the claims on totals and panel.
+-- Searches through bytes, and the proofs of the claims on totals and panel.
+pub mod Searches
 pub mod Readings
 pub mod FirstFlags
 pub mod TotalsKept

@@ -4,14 +4,13 @@
 
 pub mod questions;
 
-ghost use Rattle.std.specs.Prelude.{◌≡◌, [], ◌∷◌, ◌≤◌, length, position};
+ghost use Rattle.std.specs.Prelude.{◌≡◌, [], ◌∷◌, ◌≤◌, length};
 ghost use Rattle.shape.specs.Answers.{accepted};
 ghost use Rattle.shape.specs.Shapes.{Passed};
-ghost use Rattle.array_memory.specs.Blocks.{is_flagged};
 ghost use Rattle.array_memory.specs.Memory.{Memory, with_flagged};
 ghost use Rattle.panel.specs.Panel.{panel_questions, panel_call};
 ghost use Rattle.panel.specs.Answers.{summary_says, panel_says};
-ghost use Rattle.panel.specs.Reads.{summed};
+ghost use Rattle.panel.specs.Reads.{summed, searched};
 
 use array_memory::blocks::{BLOCK, block_end};
 use parity::Shape;
@@ -53,11 +52,19 @@ fn sum_totals(totals: &[u8]) -> Totals
     Totals { sum, block }
 }
 
-// The place of the first flag that isn't 0, which is the last that is read.
-fn search_block(flags: &[u8]) -> Option<usize>
-    ensures { result ≡ position is_flagged flags.now }
+// Reads flags up to the first that isn't 0, and counts each as it is read: how many that were where one was found, and where none
+// was.
+fn search_block(flags: &[u8]) -> Result<usize, usize>
+    ensures { result ≡ searched flags.now }
 {
-    flags.iter().position(|flag| *flag != 0)
+    let mut read: usize = 0;
+    for &flag in flags {
+        read += 1;
+        if flag != 0 {
+            return Ok(read);
+        }
+    }
+    Err(read)
 }
 
 // A panel call whose questions have been passed. Only the first block whose total isn't 0 is lent to the search.
@@ -76,17 +83,16 @@ pub fn panel_lent(shape: Shape, sizes: Sizes, flags: &[u8], totals: &[u8]) -> Su
     }
     let start = all.block * BLOCK;
     let end = block_end(start, flags.len());
-    let block = &flags[start..end];
-    match search_block(block) {
-        None => Summary {
+    match search_block(&flags[start..end]) {
+        Err(read) => Summary {
             total,
             first: None,
-            read: block.len(),
+            read,
         },
-        Some(place) => Summary {
+        Ok(read) => Summary {
             total,
-            first: Some(start + place),
-            read: place + 1,
+            first: Some(start + read - 1),
+            read,
         },
     }
 }

@@ -7,7 +7,7 @@ use native.Mathlib.Nat.{add-zero}
 use native.Mathlib.Numerals.{add-one}
 use native.Mathlib.Omega.{arith}
 use lib.ListN.{length, get_or, take, drop, set}
-use lib.Seq.{drop-cons, drop-length, set_at, append_snoc, get_or-append-add, get_or-drop}
+use lib.Seq.{take_all, drop-cons, drop-length, set_at, append_snoc, get_or-append-add, get_or-drop}
 use Rattle.parity.specs.Lists.{tabulate, filled_from}
 use Rattle.parity.proofs.ListLaws.{length-tabulate}
 
@@ -36,8 +36,11 @@ module _ {ℓ} {A : Type ℓ} where
   filled-all f l i e =
       ap (filled f l) e ∙ ap (λ t. tabulate (length l) f ++ t) (drop-length l) ∙ append-nil (tabulate (length l) f)
 
--- ---- from a list that is long enough
+-- ---- from a list that is long enough, and from one that is as long
 pub filled_from-enough : (xs bs : List ℕ) → length bs ≤ length xs → filled_from xs bs ≡ take (length bs) xs
 filled_from-enough xs [] h = refl
 filled_from-enough [] (b ∷ bs) h = absurd (omega arith)
 filled_from-enough (x ∷ xs) (b ∷ bs) h = ap (λ l. x ∷ l) (filled_from-enough xs bs (omega arith))
+
+pub filled_from-whole : (xs bs : List ℕ) → length xs ≡ length bs → filled_from xs bs ≡ xs
+filled_from-whole xs bs e = filled_from-enough xs bs (omega arith) ∙ take_all (length bs) xs (omega arith)

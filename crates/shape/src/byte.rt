@@ -11,12 +11,14 @@ pub fn power_of_two(exponent: usize) -> usize
     1 << exponent
 }
 
-// Copies as many bytes as both have.
+// Copies as many bytes as both have. By a loop of its own: the library's `copy_from_slice` is compiled to a call of memmove, which
+// the archive for C would have to find outside.
 pub fn copy(from: &[u8], to: &mut [u8])
     ensures { to.new ≡ filled_from from.now to.old }
 {
-    let both = from.len().min(to.len());
-    to[..both].copy_from_slice(&from[..both]);
+    for i in 0..from.len().min(to.len()) {
+        to[i] = from[i];
+    }
 }
 
 // The largest of the bytes, 0 where there is none. No byte ends the loop, so that it is compiled to vector code.

@@ -7,20 +7,20 @@ use lib.Dec.{lit<}
 use lib.ListN.{length}
 use borrow.Rule.Slice.PartMut.{mid_of}
 use borrow.Author.Tests.{lt-ltb, le-ltb}
-use Rattle.std.proofs.Common.{Option, position}
+use Rattle.std.specs.declared.result.Result.{Result}
 use Rattle.parity.specs.Lists.{sum_over}
 use Rattle.parity.specs.Questions.{first_no, lengths_question}
 use Rattle.parity.specs.declared.Shape.{Shape}
 use Rattle.parity.proofs.Taken.{limits}
 use Rattle.shape.specs.Answers.{none, accepted, answering}
 use Rattle.shape.proofs.Refusals.{call-passed}
-use Rattle.array_memory.specs.Blocks.{blocks_of, block_end, is_flagged}
+use Rattle.array_memory.specs.Blocks.{blocks_of, block_end}
 use Rattle.array_memory.specs.Lengths.{flagged_wanted}
 use Rattle.array_memory.specs.Memory.{Memory, with_flagged}
 use Rattle.array_memory.proofs.Asked.{flagged-counted}
 use Rattle.array_memory.proofs.BlockPlaces.{block-starts, blocks-few, block-part}
 use Rattle.panel.specs.Panel.{Reading, reading, no_reading, first_nonzero, panel_questions, panel_reading, panel_call}
-use Rattle.panel.specs.Reads.{summed}
+use Rattle.panel.specs.Reads.{summed, searched}
 use Rattle.panel.specs.declared.Totals.{Totals}
 use Rattle.panel.proofs.Readings.{reads_none, reads-block, told_by}
 use Rattle.panel.proofs.panel_lent.Goals as goal
@@ -78,13 +78,12 @@ module _ (s : Shape) (flags totals : List ℕ) (asked : first_no (panel_question
 
         -- what a search through what is lent of the flags tells
         told :
-            (found : Option ℕ) → found ≡ position is_flagged lent
-            → (mem : Memory) → panel_call s (with_flagged flags totals mem) ≡ accepted (told_by all.sum (all.block * 64) lent found)
-        told found searched =
+            (search : Result ℕ ℕ) → search ≡ searched lent
+            → (mem : Memory) → panel_call s (with_flagged flags totals mem) ≡ accepted (told_by all.sum (all.block * 64) search)
+        told search found =
             says
-            (ap (told_by all.sum (all.block * 64) lent) searched
-            ∙ ap (λ part. told_by all.sum (all.block * 64) part (position is_flagged part))
-            (block-part flags (first_nonzero totals) (all.block * 64) end place.starts ends)
+            (ap (told_by all.sum (all.block * 64))
+            (found ∙ ap searched (block-part flags (first_nonzero totals) (all.block * 64) end place.starts ends))
             ∙ reads-block flags totals added (lt-ltb (first_nonzero totals) (length totals) place.within) place.starts)
 
 -- ---- the needs
@@ -110,24 +109,24 @@ block_end-end-requires c =
     let at = place c.args.shape c.args.flags.now c.args.totals.now c.requires.none c.sum_totals-all.result c.sum_totals-all.ensures c.if-totals-all.false in
     omega (arith, at.starts, at.inside)
 
-pub slice_bounds-block-count : goal.slice_bounds-block-count
-slice_bounds-block-count c =
+pub slice_bounds-search_block-count : goal.slice_bounds-search_block-count
+slice_bounds-search_block-count c =
     let at = place c.args.shape c.args.flags.now c.args.totals.now c.requires.none c.sum_totals-all.result c.sum_totals-all.ensures c.if-totals-all.false in
     omega (arith, c.block_end-end.ensures, at.starts, at.inside)
 
-pub slice_bounds-block-start : goal.slice_bounds-block-start
-slice_bounds-block-start c =
+pub slice_bounds-search_block-start : goal.slice_bounds-search_block-start
+slice_bounds-search_block-start c =
     let at = place c.args.shape c.args.flags.now c.args.totals.now c.requires.none c.sum_totals-all.result c.sum_totals-all.ensures c.if-totals-all.false in
     omega (arith, c.block_end-end.ensures, at.starts, at.inside)
 
 -- no flag is up
-pub returns-in-None : goal.returns-in-None
-returns-in-None c =
+pub returns-in-Err : goal.returns-in-Err
+returns-in-Err c =
     told c.args.shape c.args.flags.now c.args.totals.now c.requires.none c.sum_totals-all.result c.sum_totals-all.ensures c.if-totals-all.false
-    c.block_end-end.result c.block_end-end.ensures _ c.in-None.ensures
+    c.block_end-end.result c.block_end-end.ensures _ c.in-Err.ensures
 
 -- the first flagged row
-pub returns-in-Some : goal.returns-in-Some
-returns-in-Some c =
+pub returns-in-Ok : goal.returns-in-Ok
+returns-in-Ok c =
     told c.args.shape c.args.flags.now c.args.totals.now c.requires.none c.sum_totals-all.result c.sum_totals-all.ensures c.if-totals-all.false
-    c.block_end-end.result c.block_end-end.ensures _ c.in-Some.ensures
+    c.block_end-end.result c.block_end-end.ensures _ c.in-Ok.ensures

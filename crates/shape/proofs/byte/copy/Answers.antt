@@ -1,12 +1,14 @@
--- `shape::byte::copy` meets its contract: as many bytes as both have are copied, the rest is as it was. Assumes nothing.
+-- `shape::byte::copy` meets its contract: the first i bytes are copied, the rest is as it was. Assumes nothing.
 use mathlib.Core.Path.{◌≡◌, refl, sym, ◌∙◌, ap}
 use mathlib.Core.Logic.{◌⊎◌, inl, inr, ⊎_elim}
 use mathlib.Core.List.{List, [], ◌∷◌, ◌++◌}
-use Prim.Native.Nat.{ℕ, zero, suc, ◌≤◌, min}
-use native.Mathlib.Nat.{suc_inj, le_of_suc-le-suc, suc-ne-zero, not-suc-le-zero}
-use native.Mathlib.Omega.{arith}
+use Prim.Native.Nat.{ℕ, zero, suc, ◌+◌, ◌≤◌, ◌<◌, min}
 use native.Mathlib.Decide.{dec_le}
-use lib.ListN.{length, take, drop}
+use native.Mathlib.Nat.{suc_inj, le_of_suc-le-suc, le_of_lt, suc-ne-zero, not-suc-le-zero}
+use native.Mathlib.Numerals.{add-one}
+use native.Mathlib.Omega.{arith}
+use lib.ListN.{length, get_or, take, drop, set, length-set}
+use lib.Seq.{take-suc, drop-cons, set_at, append_snoc, length-take-le}
 use Rattle.parity.specs.Lists.{filled_from}
 use Rattle.shape.proofs.byte.copy.Goals as goal
 
@@ -32,10 +34,29 @@ least n a b e = go (dec_le a b)
     go (yes h) = inl (omega (arith, e))
     go (no h) = inr (omega (arith, e))
 
+-- one byte more
+copied_next :
+    (i : ℕ) (from to : List ℕ) → i < length from → i < length to
+    → set (take i from ++ drop i to) i (get_or from i 0) ≡ take (i + 1) from ++ drop (i + 1) to
+copied_next i from to hf ht =
+    ap (λ l. set (take i from ++ l) i (get_or from i 0)) (drop-cons to i 0 ht)
+    ∙ set_at (take i from) (get_or to i 0) (drop (suc i) to) (get_or from i 0) i (length-take-le i from (le_of_lt hf))
+    ∙ sym (append_snoc (take i from) (get_or from i 0) (drop (suc i) to))
+    ∙ ap (λ l. l ++ drop (suc i) to) (sym (take-suc from i 0 hf))
+    ∙ ap (λ n. take n from ++ drop n to) (sym (add-one i))
+
+pub loop-i-preserved : goal.loop-i-preserved
+loop-i-preserved c =
+    let args = c.args in
+    let turn = c.loop-i in
+    let byte = get_or args.from.now turn.i 0 in (
+      length-set turn.to turn.i byte ∙ turn.invariant.0,
+      ap (λ l. set l turn.i byte) turn.invariant.1 ∙ copied_next turn.i args.from.now args.to.now (omega arith) (omega arith),
+    )
+
 pub returns : goal.returns
 returns c =
     let from = c.args.from.now in
     let to = c.args.to.now in
-    let n = c.min-both.result in
-    ap (λ l. l ++ drop n to) c.copy_from_slice.ensures.after ∙ copied n from to (omega arith) (omega arith)
-    (least n (length from) (length to) c.min-both.ensures)
+    let i = c.loop-i.i in
+    c.loop-i.invariant.1 ∙ copied i from to (omega arith) (omega arith) (least i (length from) (length to) (omega arith))
