@@ -16,6 +16,10 @@ module _ (ρ n : ℕ) (pos : 0 < ρ) where
   missing-some : 0 < n % ρ → missing ρ n ≡ ρ - n % ρ
   missing-some h = mod-eq_of_lt (omega arith)
 
+  pub none-missing : missing ρ n ≡ 0 → n % ρ ≡ 0
+  none-missing e =
+      ⊎_elim (λ z. z) (λ h. absurd (omega (arith, missing-some h, mod-lt n pos))) (eq-zero-or-pos (n % ρ))
+
   -- the multiple is not below the sum, and the way up to it is what is missing
   pub multiple-over : n ≤ (n + ρ - 1) / ρ * ρ
   multiple-over = omega (arith, div-add-mod' (n + ρ - 1) ρ, mod-lt (n + ρ - 1) pos)

@@ -4,13 +4,13 @@ use mathlib.Core.Logic.{⊎_elim}
 use mathlib.Core.Bool.{true, and-eq-true_iff}
 use mathlib.Core.List.{List, [], ◌∷◌, ◌++◌}
 use Prim.Native.Nat.{ℕ, zero, suc, ◌+◌, ◌≤◌, ◌<◌}
-use native.Mathlib.Nat.{eq-or-lt_of_le}
+use native.Mathlib.Nat.{le_of_suc-le-suc, eq-or-lt_of_le}
 use native.Mathlib.Numerals.{add-one}
 use native.Mathlib.Omega.{arith}
 use lib.Dec.{ltb}
 use Rattle.parity.specs.Lists.{joined}
 use Rattle.parity.specs.Questions.{Question, first_no}
-use Rattle.shape.proofs.Refusals.{numbered, first_rest, first_found}
+use Rattle.shape.proofs.Refusals.{numbered, first_rest, first-none, first_found}
 
 numbered-append : (qs more : List Question) → numbered qs ≡ true → numbered more ≡ true → numbered (qs ++ more) ≡ true
 numbered-append [] more n m = m
@@ -41,3 +41,13 @@ module _ (f : ℕ → List Question) (named : (i : ℕ) → numbered (f i) ≡ t
 
   pub joined-passes : (i : ℕ) → first_no (joined i f) ≡ 0 → first_no (f i) ≡ 0 → first_no (joined (i + 1) f) ≡ 0
   joined-passes i e q = ap (λ k. first_no (joined k f)) (add-one i) ∙ next-first i e ∙ q
+
+  -- where none of them has a no, none has
+  pub joined-each : (d i : ℕ) → i < d → first_no (joined d f) ≡ 0 → first_no (f i) ≡ 0
+  joined-each zero i h e = absurd (omega arith)
+  joined-each (suc d) i h e =
+      let both = first-none (joined d f) (f d) (numbered-joined d) e in
+      ⊎_elim
+      (λ (q : i ≡ d). ap (λ k. first_no (f k)) q ∙ both.1)
+      (λ (l : i < d). joined-each d i l both.0)
+      (eq-or-lt_of_le (le_of_suc-le-suc h))

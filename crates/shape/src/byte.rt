@@ -11,8 +11,8 @@ pub fn power_of_two(exponent: usize) -> usize
     1 << exponent
 }
 
-// Copies as many bytes as both have. By a loop of its own: the library's `copy_from_slice` is compiled to a call of memmove, which
-// the archive for C would have to find outside.
+// Copies as many bytes as both have. By a loop of its own: the library's `copy_from_slice` becomes a call of memmove where the
+// compiler cannot tell that the two lie apart, and the archive for C would have to find that outside.
 pub fn copy(from: &[u8], to: &mut [u8])
     ensures { to.new ≡ filled_from from.now to.old }
 {
